@@ -1,0 +1,36 @@
+/// What reads the dependencies of a file.
+#[derive(Clone, Copy, Debug, PartialEq, Eq)]
+pub enum ManagerKind {
+    Cargo,
+    Npm,
+    Dockerfile,
+    Regex,
+}
+
+/// Where the releases of a package are listed.
+#[derive(Clone, Copy, Debug, PartialEq, Eq)]
+pub enum SourceKind {
+    Crates,
+    Npm,
+    Docker,
+}
+
+/// How far an update goes, in rising order.
+#[derive(Clone, Copy, Debug, PartialEq, Eq, PartialOrd, Ord)]
+pub enum UpdateKind {
+    Pin,
+    Patch,
+    Minor,
+    Major,
+}
+
+/// How a range is rewritten to a new version.
+#[derive(Clone, Copy, Debug, PartialEq, Eq)]
+pub enum Strategy {
+    Auto,
+    Pin,
+    Bump,
+    Replace,
+    Widen,
+    InRangeOnly,
+}

@@ -1,0 +1,138 @@
+ghost use Rattle.std.specs.Prelude.{◌≡◌, ◌↔◌, IfOk, IfSome, IsSome, IsTrue, take};
+ghost use Rattle.rnv_base.specs.Files.{read_of, bytes_inside, listed_of, paths_of, IsRising};
+ghost use Rattle.std.proofs.lemmas.Map.Keys.{IsStrictlySortedBy-prop};
+
+use crate::{Bytes, Folder, FolderError, List, Share, Text, is_rising};
+use std::alloc::{AllocError, Global};
+use std::convert::{AsSlice, AsStr};
+use std::marker::Model;
+
+/// As many bytes of a file are read.
+const MOST: usize = 67_108_865;
+
+/// A file of a folder in memory.
+#[derive(Drop)]
+pub struct MemFile {
+    pub path: Text,
+    pub bytes: Bytes,
+}
+
+impl Model for MemFile {
+    ghost use Rattle.rnv_base.specs.Files.{NamedFile};
+
+    ghost Value = { NamedFile };
+
+    ghost view = { λ f. record { path = f.path; bytes = f.bytes.bytes } };
+}
+
+/// Files in memory. The calls whose numbers, from 0, are listed fail.
+#[derive(Drop)]
+pub struct MemFolder {
+    files: List<MemFile>,
+    failing: List<u64>,
+    calls: u64,
+    faults: u64,
+    ghost rising: { IsRising (paths_of files) } by { IsStrictlySortedBy-prop _ _ },
+}
+
+impl MemFolder {
+    /// A folder of these files whose calls with these numbers fail. None exactly where the paths do
+    /// not rise. Only memory can fail.
+    pub fn new(
+        alloc: Global,
+        files: List<MemFile>,
+        failing: List<u64>,
+    ) -> Result<Option<MemFolder>, AllocError>
+        ensures exactly { IfOk result (λ made. IsSome made ↔ IsRising (paths_of files)) }
+        ensures files { IfOk result (λ made. IfSome made (λ folder. ⟦<MemFolder as Folder>⟧.files folder ≡ files)) }
+        ensures unfailed { IfOk result (λ made. IfSome made (λ folder. ⟦<MemFolder as Folder>⟧.faults folder ≡ 0)) }
+        ensures failing { IfOk result (λ made. IfSome made (λ folder. folder.failing ≡ failing)) }
+    {
+        if !are_rising(alloc, files.as_slice())? {
+            return Ok(None);
+        }
+        Ok(Some(MemFolder {
+            files,
+            failing,
+            calls: 0,
+            faults: 0,
+        }))
+    }
+}
+
+impl Folder for MemFolder {
+    ghost tells = { Unit {0} };
+
+    ghost files = { λ s. s.files };
+
+    ghost faults = { λ s. s.faults };
+
+    fn read(&mut self, alloc: Global, path: &str) -> Result<Option<Bytes>, FolderError> {
+        let call = self.calls;
+        self.calls = call.saturating_add(1);
+        if self.failing.as_slice().contains(&call) {
+            self.faults = self.faults.saturating_add(1);
+            return Err(FolderError::Failed);
+        }
+        match find(alloc, self.files.as_slice(), path) {
+            Ok(found) => Ok(found),
+            Err(_) => Err(FolderError::Memory),
+        }
+    }
+
+    #[tactic(auto, using(crate::proofs::Listed::listed_rises))]
+    fn list(&mut self, alloc: Global, prefix: &str) -> Result<List<Text>, FolderError> {
+        let call = self.calls;
+        self.calls = call.saturating_add(1);
+        if self.failing.as_slice().contains(&call) {
+            self.faults = self.faults.saturating_add(1);
+            return Err(FolderError::Failed);
+        }
+        match listed(alloc, self.files.as_slice(), prefix) {
+            Ok(paths) => Ok(paths),
+            Err(_) => Err(FolderError::Memory),
+        }
+    }
+}
+
+// Whether the paths rise. Only memory can fail.
+#[tactic(auto, using(crate::proofs::Listed::listed_all))]
+pub fn are_rising(alloc: Global, files: &[MemFile]) -> Result<bool, AllocError>
+    ensures { IfOk result (λ rise. IsTrue rise ↔ IsRising (paths_of files.now)) }
+{
+    let paths = listed(alloc, files, "")?;
+    Ok(is_rising(paths.as_slice()))
+}
+
+// Copies of the paths that begin with the prefix.
+pub fn listed(alloc: Global, files: &[MemFile], prefix: &str) -> Result<List<Text>, AllocError>
+    ensures { IfOk result (λ paths. paths ≡ listed_of prefix.now files.now) }
+{
+    let mut paths = List::empty(alloc);
+    for file in files {
+        if file.path.as_str().as_bytes().starts_with(prefix.as_bytes()) {
+            paths.push(file.path.share(alloc)?)?;
+        }
+    }
+    Ok(paths)
+}
+
+// A copy of the front of the file with this path.
+pub fn find(alloc: Global, files: &[MemFile], path: &str) -> Result<Option<Bytes>, AllocError>
+    ensures { IfOk result (λ found. bytes_inside found ≡ read_of path.now files.now) }
+{
+    for file in files {
+        if file.path.as_str() == path {
+            return Ok(Some(front(alloc, file.bytes.as_slice(), MOST)?));
+        }
+    }
+    Ok(None)
+}
+
+// A copy of the first `most` bytes.
+fn front(alloc: Global, bytes: &[u8], most: usize) -> Result<Bytes, AllocError>
+    ensures { IfOk result (λ copy. copy.bytes ≡ take most bytes.now) }
+{
+    let count = bytes.len().min(most);
+    Ok(Bytes::new(Vec::from_slice(alloc, &bytes[..count])?))
+}
