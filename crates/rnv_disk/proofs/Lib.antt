@@ -1,0 +1,5 @@
+mod Ranges
+mod OneMore
+mod Noted
+mod Stopped
+pub mod Moments
