@@ -1,0 +1,13 @@
+pub mod Places
+pub mod Spelling
+pub mod Appends
+pub mod Cases
+pub mod Changed
+pub mod Each
+pub mod Founds
+pub mod Keeps
+pub mod Numbers
+pub mod Steps
+pub mod Uses
+pub mod Writes
+pub mod Wrong

@@ -1,0 +1,5 @@
+use Rattle.rnv_journal.proofs.Keeps.{keeps_both, keeps_left}
+use Rattle.rnv_journal.proofs.start.entries_at_rest.Goals as goal
+
+pub returns-in-Ok-clause-any_moment : goal.returns-in-Ok-clause-any_moment
+returns-in-Ok-clause-any_moment g c = keeps_both c.args.limit _ _ _ (keeps_left c.args.limit _ _ c.read_synced.ensures.stops) c.settled.ensures.any_moment

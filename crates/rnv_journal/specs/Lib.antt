@@ -1,0 +1,6 @@
+pub mod File
+pub mod Found
+pub mod Held
+pub mod Reading
+pub mod Readings
+pub mod Start

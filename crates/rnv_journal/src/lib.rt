@@ -1,0 +1,15 @@
+//! A list of byte strings that survives a stop at any moment: its file, and how it is read.
+#![tactic(auto)]
+
+mod append;
+mod head;
+mod journal;
+mod making;
+mod reading;
+mod start;
+#[cfg(test)]
+mod tests;
+mod writing;
+
+pub use journal::Journal;
+pub use start::StartError;
