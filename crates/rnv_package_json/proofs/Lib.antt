@@ -1,0 +1,10 @@
+mod Again
+mod Cuts
+mod Marks
+mod Rests
+mod Spelled
+mod Strings
+mod Takes
+mod Turns
+pub mod Whole
+mod Words
