@@ -1,0 +1,5 @@
+mod Calm
+pub mod Versions
+pub mod Spaces
+pub mod Unspaced
+pub mod Exacts
