@@ -1,0 +1,2 @@
+pub mod PackageTest
+pub mod Listing

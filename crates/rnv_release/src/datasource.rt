@@ -1,0 +1,38 @@
+ghost use Rattle.std.specs.Prelude.{◌≡◌, ◌≤◌, ℕ, List, length, IfOk, IfErr};
+ghost use Rattle.rnv_release.specs.Reading.{Reading, listed, refused};
+ghost use Rattle.rnv_release.specs.Refusal.{IfBadIndex, IfTooManyReleases, ListsMore};
+
+use crate::Release;
+use rnv_base::{List, Text};
+use std::alloc::{AllocError, Global};
+
+/// Why a document gives no releases.
+#[derive(Clone, Copy, Debug, PartialEq, Eq)]
+pub enum IndexError {
+    /// The document is outside the grammar, at this line from 1.
+    BadIndex { line: u64 },
+    /// It lists more releases than this number, which is 50,000.
+    TooManyReleases { number: u64 },
+    /// Want of memory.
+    Memory,
+}
+
+/// A kind of index: where the document of a package lies, and what it lists.
+pub trait Datasource {
+    /// The path of a package's document below the operator's folder.
+    ghost path_of: { Self → List ℕ → List ℕ };
+
+    /// What a document lists.
+    ghost reading: { Self → List ℕ → Reading };
+
+    /// The path of the document of the package with this name. Only memory can fail.
+    fn path(&self, alloc: Global, name: &str) -> Result<Text, AllocError>
+        ensures { IfOk result (λ path. path ≡ path_of self.now name.now) };
+
+    /// The releases that a document lists, at most 50,000 of them.
+    fn read(&self, alloc: Global, bytes: &[u8]) -> Result<List<Release>, IndexError>
+        ensures listed { IfOk result (λ releases. reading self.now bytes.now ≡ listed releases) }
+        ensures few { IfOk result (λ releases. length releases ≤ 50000) }
+        ensures bad { IfErr result (IfBadIndex (λ line. reading self.now bytes.now ≡ refused line)) }
+        ensures many { IfErr result (IfTooManyReleases (λ number. (number ≡ 50000) × ListsMore (reading self.now bytes.now))) };
+}

@@ -1,0 +1,16 @@
+//! The releases of packages: the documents of an index that list them, and what a folder's index
+//! gives for a package.
+#![tactic(auto)]
+
+mod datasource;
+mod lookup;
+mod npm;
+mod package;
+mod release;
+#[cfg(test)]
+mod tests;
+
+pub use datasource::{Datasource, IndexError};
+pub use lookup::{ReadIndexError, read_releases};
+pub use npm::NpmIndex;
+pub use release::Release;
