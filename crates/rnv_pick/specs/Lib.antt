@@ -1,0 +1,4 @@
+pub mod Greatest
+pub mod Candidates
+pub mod Choice
+pub mod Updates

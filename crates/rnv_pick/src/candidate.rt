@@ -1,0 +1,96 @@
+ghost use Rattle.std.specs.Prelude.{◌≡◌, ◌++◌, Option, IfOk, OnOk};
+ghost use Rattle.std.specs.List.{filter_map};
+ghost use Rattle.std.specs.Option.{option_to_list};
+ghost use Rattle.rnv_pick.specs.Candidates.{is_stable, is_wanted, candidate_of, candidates};
+
+use rnv_base::{Share, Text};
+use rnv_npm::{NpmVersion, NpmVersioning, VersionError};
+use rnv_release::Release;
+use std::alloc::{AllocError, Global};
+use std::cmp::Ordering;
+use std::convert::AsStr;
+use std::marker::Model;
+
+/// A release that may be chosen: its text, and the version that this is.
+#[derive(Drop)]
+pub struct Candidate {
+    pub text: Text,
+    pub version: NpmVersion,
+}
+
+impl Model for Candidate {
+    ghost use Rattle.rnv_pick.specs.Candidates.{Candidate};
+
+    ghost Value = { Candidate };
+
+    ghost view = { λ c. record { text = c.text; version = c.version } };
+}
+
+/// The candidates among the releases of a package, in their order. Only memory can fail.
+pub fn candidates(
+    alloc: Global,
+    start: &NpmVersion,
+    releases: &[Release],
+) -> Result<Vec<Candidate>, AllocError>
+    ensures { IfOk result (λ found. found.items ≡ candidates start.now releases.now) }
+{
+    let mut found = Vec::new(alloc);
+    for release in releases {
+        add(alloc, start, release, &mut found)?;
+    }
+    Ok(found)
+}
+
+// Puts the release at the end, if it is a candidate.
+fn add(
+    alloc: Global,
+    start: &NpmVersion,
+    release: &Release,
+    found: &mut Vec<Candidate>,
+) -> Result<(), AllocError>
+    ensures { OnOk result (found.new.items ≡ found.old.items ++ option_to_list (candidate_of start.now release.now)) }
+{
+    if let Some(candidate) = as_candidate(alloc, start, release)? {
+        found.push(candidate)?;
+    }
+    Ok(())
+}
+
+// The release as a candidate, if it is one.
+#[tactic(auto, unfolding(crate::specs::Candidates::candidate_of))]
+fn as_candidate(
+    alloc: Global,
+    start: &NpmVersion,
+    release: &Release,
+) -> Result<Option<Candidate>, AllocError>
+    ensures { IfOk result (λ found. found ≡ candidate_of start.now release.now) }
+{
+    let version = match NpmVersioning.version(alloc, release.text.as_str()) {
+        Ok(version) => version,
+        Err(VersionError::NotAVersion) => return Ok(None),
+        Err(VersionError::Memory) => return Err(AllocError),
+    };
+    if !is_wanted(start, release, &version) {
+        return Ok(None);
+    }
+    Ok(Some(Candidate {
+        text: release.text.share(alloc)?,
+        version,
+    }))
+}
+
+// Whether a release of this version is not drawn back, above the start, and stable unless the start
+// is not.
+fn is_wanted(start: &NpmVersion, release: &Release, version: &NpmVersion) -> bool
+    ensures { result ≡ is_wanted start.now release.now version.now }
+{
+    !release.yanked
+        && NpmVersioning.compare(start, version) == Ordering::Less
+        && (is_stable(version) || !is_stable(start))
+}
+
+fn is_stable(version: &NpmVersion) -> bool
+    ensures { result ≡ is_stable version.now }
+{
+    NpmVersioning.stable(version)
+}
