@@ -1,0 +1,11 @@
+pub mod Ascii
+pub mod Built
+pub mod Documents
+pub mod Files
+pub mod Finds
+pub mod Gathered
+pub mod GreatestKind
+pub mod Grouped
+pub mod Listed
+pub mod OneList
+pub mod Picked

@@ -1,0 +1,75 @@
+use Rattle.std.proofs.Common.{false, Err, ◌≡◌, ℕ, List, [], ◌∷◌, ◌++◌, ◌∙◌, sym, ap, subst, arith, append-nil}
+use Rattle.std.specs.BTreeSet.{keys}
+use Rattle.std.specs.BTreeMap.{get}
+use Rattle.std.specs.List.{All}
+use Rattle.std.specs.Ordering.{nat_cmp}
+use Rattle.std.specs.Cmp.Lexicographic.{slice_cmp}
+use Rattle.std.proofs.lemmas.Result.{err_from_is_err_and}
+use Rattle.rnv_release.specs.Npm.{npm_path}
+use Rattle.rnv_plan.specs.Gather.{index_for, is_sound, releases_for, IsSound}
+use Rattle.rnv_plan.specs.Refusal.{IfNotBuilt}
+use Rattle.rnv_plan.specs.Unbuilt.{IsFirstUnsoundName}
+use Rattle.rnv_plan.proofs.Documents.{AreRead, IfErr-at, IfNotBuilt-both, first_refused, parts_more, carried, AreRead-absent, AreRead-listed}
+use Rattle.rnv_plan.proofs.indexes.read_each.Given.{Over}
+use Rattle.rnv_plan.proofs.indexes.read_each.Goals.{In_ok-insert}
+use Rattle.rnv_plan.proofs.indexes.read_each.Goals as goal
+
+pub returns-in_err-releases-clause-unbuilt : goal.returns-in_err-releases-clause-unbuilt
+returns-in_err-releases-clause-unbuilt g c =
+    let files = g.O.Folder.files c.args.folder.now in
+    let names = keys c.args.names in
+    let refused = c.in_err-releases.field-0.0 in
+    let ends = err_from_is_err_and c.from_residual.result c.from_residual.ensures.1 in
+    λ t. IfErr-at (IfNotBuilt (λ path. (name : List ℕ) × IsFirstUnsoundName files names name × (path ≡ npm_path name))) c.from_residual.result refused (ends.1 ∙ ap Err ends.2)
+    (IfNotBuilt-both (λ path. is_sound (index_for files c.in-Some.name) ≡ false) (λ path. path ≡ npm_path c.in-Some.name) (λ path. (name : List ℕ) × IsFirstUnsoundName files names name × (path ≡ npm_path name)) refused
+    (λ path unsound same. (c.in-Some.name, first_refused files names c.loop-name.yielded c.loop-name.name-iterator c.next.new.self c.in-Some.name c.into_iter-name-iterator.ensures.into_iter_gives.4 c.loop-name.invariant.parts c.in-Some.ensures.steps (c.loop-name.invariant.read t).sound unsound, same))
+    (carried (λ f n. IfNotBuilt (λ path. is_sound (index_for f n) ≡ false) refused) _ _ _ _ (c.loop-name.invariant.same t) c.as_str.ensures (c.in_err-releases.ensures.unsound t))
+    (subst (λ n. IfNotBuilt (λ path. path ≡ npm_path n) refused) c.as_str.ensures c.in_err-releases.ensures.path))
+
+listed : (g : Over) (c : In_ok-insert g) → g.O.Folder.tells → AreRead (IsSound (g.O.Folder.files c.args.folder.now)) (releases_for (g.O.Folder.files c.args.folder.now)) (c.loop-name.yielded ++ c.in-Some.name ∷ []) c.insert.new.self
+listed g c t =
+    let files = g.O.Folder.files c.args.folder.now in
+    let same = c.loop-name.invariant.same t in
+    let is_name = c.as_str.ensures in
+    AreRead-listed (IsSound files) (releases_for files) c.loop-name.yielded c.loop-name.indexes c.insert.new.self c.in-Some.name c.in-Some-2.releases (c.loop-name.invariant.read t)
+    (carried IsSound _ _ _ _ same is_name (c.in_ok-releases.ensures.sound t))
+    (sym c.in-Some-2.is ∙ carried (λ f n. c.in_ok-releases.field-0 ≡ releases_for f n) _ _ _ _ same is_name (c.in_ok-releases.ensures.releases t))
+    c.in_ok-insert.ensures.updates
+
+pub loop-name-preserved-in_ok-insert : goal.loop-name-preserved-in_ok-insert
+loop-name-preserved-in_ok-insert g c = record {
+  parts = parts_more (keys c.args.names) c.loop-name.yielded c.loop-name.name-iterator c.next.new.self c.in-Some.name c.loop-name.invariant.parts c.in-Some.ensures.steps;
+  read = listed g (goal.at.loop-name-preserved-in_ok-insert g c).In_ok-insert;
+  same = λ t. c.in_ok-releases.ensures.same t ∙ c.loop-name.invariant.same t;
+  later = omega (arith, c.in_ok-releases.ensures.cause.later, c.loop-name.invariant.later);
+}
+
+pub loop-name-preserved-in_ok-insert-2 : goal.loop-name-preserved-in_ok-insert-2
+loop-name-preserved-in_ok-insert-2 g c = record {
+  parts = parts_more (keys c.args.names) c.loop-name.yielded c.loop-name.name-iterator c.next.new.self c.in-Some.name c.loop-name.invariant.parts c.in-Some.ensures.steps;
+  read = listed g (goal.at.loop-name-preserved-in_ok-insert-2 g c).In_ok-insert;
+  same = λ t. c.in_ok-releases.ensures.same t ∙ c.loop-name.invariant.same t;
+  later = omega (arith, c.in_ok-releases.ensures.cause.later, c.loop-name.invariant.later);
+}
+
+pub loop-name-preserved : goal.loop-name-preserved
+loop-name-preserved g c =
+    let files = g.O.Folder.files c.args.folder.now in
+    let step = c.in-Some.ensures.steps in
+    let is_name = c.as_str.ensures in
+    record {
+      parts = parts_more (keys c.args.names) c.loop-name.yielded c.loop-name.name-iterator c.next.new.self c.in-Some.name c.loop-name.invariant.parts step;
+      read = λ t.
+          let same = c.loop-name.invariant.same t in
+          AreRead-absent (IsSound files) (releases_for files) c.loop-name.yielded c.loop-name.indexes c.in-Some.name (c.loop-name.invariant.read t)
+          (carried IsSound _ _ _ _ same is_name (c.in_ok-releases.ensures.sound t))
+          (sym c.in_default.is ∙ carried (λ f n. c.in_ok-releases.field-0 ≡ releases_for f n) _ _ _ _ same is_name (c.in_ok-releases.ensures.releases t));
+      same = λ t. c.in_ok-releases.ensures.same t ∙ c.loop-name.invariant.same t;
+      later = omega (arith, c.in_ok-releases.ensures.cause.later, c.loop-name.invariant.later);
+    }
+
+pub returns-clause-releases : goal.returns-clause-releases
+returns-clause-releases g c = λ t.
+    let files = g.O.Folder.files c.args.folder.now in
+    let whole : c.loop-name.yielded ≡ keys c.args.names = sym (append-nil c.loop-name.yielded) ∙ (ap (λ r. c.loop-name.yielded ++ r) (sym c.in-None.ensures.steps.0) ∙ c.loop-name.invariant.parts) in
+    subst (All (λ name. get (slice_cmp nat_cmp) c.loop-name.indexes name ≡ releases_for files name)) whole (c.loop-name.invariant.read t).releases

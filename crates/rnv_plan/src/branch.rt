@@ -1,0 +1,115 @@
+ghost use Rattle.std.specs.Prelude.{◌≡◌, ◌++◌, ◌<◌, IfOk, reverse, length};
+ghost use Rattle.std.specs.Str.{IsAscii};
+ghost use Rattle.std.specs.Fmt.{decimal};
+ghost use Rattle.rnv_plan.specs.Branch.{skip, is_plain, plain_or_dash, is_edge, written, begins_with_dash, single_dashes, or_x, trimmed, sanitised, branch_of};
+
+use rnv_base::Text;
+use std::alloc::{AllocError, Global};
+use std::convert::AsStr;
+
+/// The name of the branch that takes a package to a new major version.
+pub fn branch_name(alloc: Global, package: &str, major: u64) -> Result<Text, AllocError>
+    ensures { IfOk result (λ name. name ≡ branch_of «package».now major) }
+{
+    let topic = sanitised(alloc, package)?;
+    let topic = topic.as_str();
+    Ok(Text::new(format!(in alloc; "renovate/{topic}-{major}.x")?))
+}
+
+// The package as a part of a branch name.
+#[tactic(auto, using(crate::proofs::Ascii::trimmed_is_ascii), unfolding(crate::specs::Branch::sanitised))]
+fn sanitised(alloc: Global, package: &str) -> Result<Text, AllocError>
+    ensures { IfOk result (λ topic. topic ≡ sanitised «package».now) }
+{
+    let written = written(alloc, package)?;
+    let dashed = single_dashes(alloc, written.as_slice())?;
+    let topic = trim_end(trim_start(dashed.as_slice()));
+    or_x(alloc, topic)
+}
+
+// These bytes, or `x` where there are none.
+fn or_x(alloc: Global, bytes: &[u8]) -> Result<Text, AllocError>
+    requires { IsAscii bytes.now }
+    ensures { IfOk result (λ text. text ≡ or_x bytes.now) }
+{
+    match bytes {
+        [] => Text::copied(alloc, "x"),
+        _ => ascii_text(alloc, bytes),
+    }
+}
+
+fn is_plain(byte: u8) -> bool
+    ensures { result ≡ is_plain byte }
+{
+    byte.is_ascii_lowercase() || byte.is_ascii_digit() || byte == b'.' || byte == b'_'
+}
+
+fn plain_or_dash(byte: u8) -> u8
+    ensures { result ≡ plain_or_dash byte }
+{
+    if is_plain(byte) { byte } else { b'-' }
+}
+
+// The package in small letters, without `@`, each other byte a dash.
+fn written(alloc: Global, package: &str) -> Result<Vec<u8>, AllocError>
+    ensures { IfOk result (λ bytes. bytes.items ≡ written «package».now) }
+{
+    package
+        .as_bytes()
+        .iter()
+        .map(|byte| byte.to_ascii_lowercase())
+        .filter(|byte| *byte != b'@')
+        .map(|byte| plain_or_dash(byte))
+        .collect(alloc)
+}
+
+// One dash for each run of dashes.
+fn single_dashes(alloc: Global, bytes: &[u8]) -> Result<Vec<u8>, AllocError>
+    ensures { IfOk result (λ dashed. dashed.items ≡ single_dashes bytes.now) }
+{
+    let mut dashed = Vec::with_capacity(alloc, bytes.len())?;
+    let mut rest = bytes;
+    while let [byte, tail @ ..] = rest {
+        if *byte != b'-' || !begins_with_dash(tail) {
+            dashed.push(*byte)?;
+        }
+        rest = tail;
+    }
+    Ok(dashed)
+}
+
+fn begins_with_dash(bytes: &[u8]) -> bool
+    ensures { result ≡ begins_with_dash bytes.now }
+{
+    matches!(bytes, [b'-', ..])
+}
+
+fn trim_start(bytes: &[u8]) -> &[u8]
+    ensures { result.now ≡ skip is_edge bytes.now }
+{
+    let mut rest = bytes;
+    while let [b'-' | b'.', tail @ ..] = rest {
+        rest = tail;
+    }
+    rest
+}
+
+fn trim_end(bytes: &[u8]) -> &[u8]
+    ensures { result.now ≡ reverse (skip is_edge (reverse bytes.now)) }
+{
+    let mut rest = bytes;
+    while let [head @ .., b'-' | b'.'] = rest {
+        rest = head;
+    }
+    rest
+}
+
+fn ascii_text(alloc: Global, bytes: &[u8]) -> Result<Text, AllocError>
+    requires { IsAscii bytes.now }
+    ensures { IfOk result (λ text. text ≡ bytes.now) }
+{
+    match std::str::from_utf8(bytes) {
+        Ok(text) => Text::copied(alloc, text),
+        Err(_) => unreachable!(),
+    }
+}
