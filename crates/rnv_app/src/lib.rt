@@ -1,0 +1,14 @@
+//! The program as one call over the outside: its words, what it prints, and its statuses.
+#![tactic(auto)]
+
+mod end;
+mod plan_text;
+mod report;
+#[cfg(test)]
+mod tests;
+mod top;
+mod words;
+
+pub use end::Refusal;
+pub use top::{Ended, Outside, Status, renovate};
+pub use words::{Words, WordsError};
