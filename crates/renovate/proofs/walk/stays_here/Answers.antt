@@ -1,0 +1,14 @@
+use Rattle.std.proofs.Common.{lit<, rules}
+use borrow.Author.Tests.{tests}
+use Rattle.std.proofs.lemmas.Iterator.{cases_from_all}
+use Rattle.std.proofs.lemmas.Iterator.Splits.{YieldsList-from_str_split}
+use Rattle.rnv_base.specs.Names.{segments, IsSegment}
+use Rattle.rnv_base.proofs.Pieces.{every_piece}
+use Rattle.renovate.proofs.walk.stays_here.Goals as goal
+
+pub returns : goal.returns
+returns c =
+    every_piece IsSegment c.all.result (segments c.args.path.now)
+    (cases_from_all _ _ _ IsSegment (λ part. ¬ IsSegment part) c.all.ensures.ran
+    (YieldsList-from_str_split 47 c.args.path.now (lit< tt) c.split.ensures.text c.split.ensures.has_more c.split.ensures.pattern)
+    (λ x q k. search (rules, tests)) (λ x q k. search (rules, tests)))
