@@ -1,2 +1,4 @@
 pub mod PackageTest
 pub mod Listing
+pub mod Walking
+pub mod Objects

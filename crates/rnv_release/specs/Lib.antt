@@ -1,6 +1,7 @@
 pub mod Reading
 pub mod Refusal
 pub mod Npm
-pub mod Seen
+pub mod Parts
+pub mod Times
 pub mod Package
 pub mod Index

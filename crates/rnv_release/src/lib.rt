@@ -9,6 +9,7 @@ mod package;
 mod release;
 #[cfg(test)]
 mod tests;
+mod times;
 
 pub use datasource::{Datasource, IndexError};
 pub use lookup::{ReadIndexError, read_releases};

@@ -1,23 +1,21 @@
-ghost use Rattle.std.specs.Prelude.{◌≡◌, length, map, Some, None, IfOk, IfErr, IfSome, option_and_then};
+ghost use Rattle.std.specs.Prelude.{◌≡◌, length, map, Some, None, IfOk, IfErr, option_map};
 ghost use Rattle.std.specs.BTreeMap.{btree_map_len};
-ghost use Rattle.serde_json.specs.Find.{get};
+ghost use Rattle.serde_json.specs.Data.{object};
+ghost use Rattle.serde_json.specs.Find.{as_object};
 ghost use Rattle.serde_json.specs.View.{view, members_view};
-ghost use Rattle.rnv_base.specs.Moment.{IsMoment};
-ghost use Rattle.rnv_release.specs.Seen.{view_inside};
-ghost use Rattle.rnv_release.specs.Npm.{are_times, json_of, moment_of, names_of, npm_path, npm_reading, release_of, time_of};
+ghost use Rattle.rnv_release.specs.Npm.{json_of, names_of, npm_path, npm_reading, npm_releases, release_of};
 ghost use Rattle.rnv_release.specs.Refusal.{IfBadIndex, IfTooManyReleases};
+ghost use Rattle.rnv_release.specs.Times.{AreRising, release_told, times_in, times_left};
+ghost use Rattle.rnv_release.specs.Parts.{releases_of_parts};
 
+use crate::times::Times;
 use crate::{Datasource, IndexError, Release};
-use jiff::Timestamp;
 use rnv_base::{List, Text};
 use serde_json::{Map, Value};
 use std::alloc::{AllocError, Global};
 
 // The most releases that a document may list.
 const MOST: usize = 50_000;
-
-// 9998-12-31T23:59:59Z, the last moment.
-const LAST: i128 = 253_370_764_799;
 
 /// An index of npm packages: `index/npm/NAME.json` is JSON (RFC 8259, as `serde_json` reads it): an
 /// object with an object `versions`, whose names are the releases in the order of their bytes, and
@@ -41,19 +39,15 @@ impl Datasource for NpmIndex {
 
     fn read(&self, alloc: Global, bytes: &[u8]) -> Result<List<Release>, IndexError> {
         let document = json(alloc, bytes)?;
-        let times = document.get("time");
-        let Some(versions) = document.get("versions").and_then(Value::as_object) else {
+        let Some(Parts { versions, times }) = parts_of(alloc, document) else {
             return Err(IndexError::BadIndex { line: 1 });
         };
-        if !are_times(times) {
-            return Err(IndexError::BadIndex { line: 1 });
-        }
         if versions.len() > MOST {
             return Err(IndexError::TooManyReleases {
                 number: MOST as u64,
             });
         }
-        match listed(alloc, versions, times) {
+        match releases(alloc, versions, times) {
             Ok(releases) => Ok(releases),
             Err(_) => Err(IndexError::Memory),
         }
@@ -77,72 +71,75 @@ fn json(alloc: Global, bytes: &[u8]) -> Result<Value, IndexError>
     }
 }
 
-// Whether a member `time` that is there is an object.
-fn are_times(times: Option<&Value>) -> bool
-    ensures { result ≡ are_times (view_inside times.entry) }
+/// The objects of a document that tell its releases. `times` has no members where it is missing.
+#[derive(Drop)]
+pub struct Parts {
+    pub versions: Map<String, Value>,
+    pub times: Map<String, Value>,
+}
+
+// The objects that tell the releases of a document, None where it is no npm document.
+fn parts_of(alloc: Global, document: Value) -> Option<Parts>
+    ensures { option_map releases_of_parts result ≡ npm_releases (view document) }
 {
-    match times {
-        Some(value) => value.is_object(),
-        None => true,
+    let mut members = object_members(document)?;
+    let times = times_in(alloc, members.remove("time"))?;
+    let versions = object_members(members.remove("versions")?)?;
+    Some(Parts { versions, times })
+}
+
+// The members of an object, None of another value.
+fn object_members(value: Value) -> Option<Map<String, Value>>
+    ensures { option_map (λ map. members_view map.entries) result ≡ as_object (view value) }
+{
+    match value {
+        Value::Object(map) => Some(map),
+        _ => None,
     }
 }
 
-// A release for each of the versions. Only memory can fail.
+// The members of `time`, which may be missing. None where it is there and no object.
+fn times_in(alloc: Global, value: Option<Value>) -> Option<Map<String, Value>>
+    ensures { option_map (λ map. members_view map.entries) result ≡ times_in (option_map view value) }
+{
+    match value {
+        Some(value) => object_members(value),
+        None => Some(Map::new(alloc)),
+    }
+}
+
+// The releases that the parts of a document tell. Only memory can fail.
+fn releases(
+    alloc: Global,
+    versions: Map<String, Value>,
+    times: Map<String, Value>,
+) -> Result<List<Release>, AllocError>
+    ensures value { IfOk result (λ releases. releases ≡ map (release_of (Some (object (members_view times.entries)))) (names_of (members_view versions.entries))) }
+    ensures count { IfOk result (λ releases. length releases ≡ btree_map_len versions) }
+{
+    listed(alloc, versions, Times::new(times))
+}
+
+// A release for each of the versions, with the time that is told for it. Both are walked once, side
+// by side. Only memory can fail.
 fn listed(
     alloc: Global,
-    versions: &Map<String, Value>,
-    times: Option<&Value>,
+    versions: Map<String, Value>,
+    mut times: Times,
 ) -> Result<List<Release>, AllocError>
-    ensures value { IfOk result (λ releases. releases ≡ map (release_of (view_inside times.entry)) (names_of (members_view versions.now.entries))) }
-    ensures count { IfOk result (λ releases. length releases ≡ btree_map_len versions.now) }
+    requires { AreRising (times_left times) }
+    ensures value { IfOk result (λ releases. releases ≡ map (release_told (times_left times)) (names_of (members_view versions.entries))) }
+    ensures count { IfOk result (λ releases. length releases ≡ btree_map_len versions) }
 {
-    let mut releases = List::empty(alloc);
-    for name in versions.keys() {
-        releases.push(release(alloc, name.as_str(), times)?)?;
+    let mut releases = Vec::with_capacity(alloc, versions.len())?;
+    for name in versions.into_keys() {
+        times.pass(name.as_str());
+        let time = times.first_time(name.as_str());
+        releases.push(Release {
+            text: Text::new(name),
+            time,
+            yanked: false,
+        })?;
     }
-    Ok(releases)
-}
-
-// The release of this name. Only memory can fail.
-fn release(alloc: Global, name: &str, times: Option<&Value>) -> Result<Release, AllocError>
-    ensures { IfOk result (λ release. release ≡ release_of (view_inside times.entry) name.now) }
-{
-    Ok(Release {
-        text: Text::copied(alloc, name)?,
-        time: time_in(times, name),
-        yanked: false,
-    })
-}
-
-// The moment that the times tell for a release.
-fn time_in(times: Option<&Value>, name: &str) -> Option<u64>
-    ensures { result ≡ option_and_then time_of (option_and_then (get name.now) (view_inside times.entry)) }
-{
-    time(times?.get(name)?)
-}
-
-// The moment that a value tells.
-fn time(value: &Value) -> Option<u64>
-    ensures { result ≡ time_of (view value.now) }
-{
-    match value.as_str()?.parse::<Timestamp>() {
-        Ok(instant) => moment(instant.as_nanosecond()),
-        Err(_) => None,
-    }
-}
-
-// The moment of an instant in nanoseconds since 1970-01-01T00:00:00Z.
-fn moment(instant: i128) -> Option<u64>
-    ensures value { result ≡ moment_of instant }
-    ensures moment { IfSome result IsMoment }
-{
-    if instant < 0 {
-        return None;
-    }
-    let second = instant / 1_000_000_000;
-    if second <= LAST {
-        Some(second as u64)
-    } else {
-        None
-    }
+    Ok(List::new(releases))
 }

@@ -1,7 +1,8 @@
-use Rattle.std.proofs.Common.{◌≡◌, map, string_bytes}
-use Rattle.rnv_release.specs.Npm.{release_of}
-use Rattle.rnv_release.specs.Seen.{view_inside}
+use Rattle.std.proofs.Common.{◌≡◌, ◌++◌, map, string_bytes}
+use Rattle.std.specs.BTreeMap.{keys}
+use Rattle.rnv_release.specs.Times.{times_left}
+use Rattle.rnv_release.proofs.Walking.{walked}
 use Rattle.rnv_release.proofs.npm.listed.Given as goal
 
 abbrev pub invariant-loop-name : goal.invariant-loop-name
-invariant-loop-name l = l.releases ≡ map (λ name. release_of (view_inside l.fn.times) (string_bytes name.now)) l.yielded
+invariant-loop-name l = l.releases.items ++ walked (map string_bytes l.name-iterator) (times_left l.times) ≡ walked (map string_bytes (keys l.fn.versions)) (times_left l.fn.times)
