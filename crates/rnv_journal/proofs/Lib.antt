@@ -5,6 +5,7 @@ pub mod Cases
 pub mod Changed
 pub mod Each
 pub mod Founds
+pub mod Held
 pub mod Keeps
 pub mod Numbers
 pub mod Steps

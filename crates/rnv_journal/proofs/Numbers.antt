@@ -1,6 +1,6 @@
 -- The number that four bytes spell.
-use Rattle.std.proofs.Common.{◌≡◌, ◌<◌, ◌≤◌, ℕ, ◌+◌, ◌*◌, List, [], ◌∷◌, ◌++◌, length, take, drop, ◌∙◌, ap, arith, length-append}
-use Rattle.std.specs.Int.{w32, from_be_bytes}
+use Rattle.std.proofs.Common.{◌≡◌, ◌<◌, ◌≤◌, ℕ, ◌+◌, ◌*◌, ◌^◌, ◌/◌, ◌%◌, List, [], ◌∷◌, ◌++◌, length, take, drop, ◌∙◌, ap, arith, length-append}
+use Rattle.std.specs.Int.{w32, from_be_bytes, to_be_bytes}
 use Rattle.rnv_journal.specs.File.{four_bytes, body}
 use Rattle.rnv_journal.proofs.Spelling.{four_bytes_of, number_of, length_body}
 
@@ -20,3 +20,11 @@ unfolding four_bytes
 entry_number bytes payload more n four e =
     let same : take 4 (drop 1 bytes) ≡ take 4 (body payload ++ more) = ap (λ (l : List ℕ). take 4 (drop 1 l)) e in
     number_of n (length payload) (four ∙ same)
+
+-- the bytes of a number below 2 ^ 32
+pub be_four : (n : ℕ) → n < 2 ^ 32 → to_be_bytes w32 n ≡ four_bytes n
+unfolding four_bytes
+be_four n less =
+    let small : n / 16777216 < 256 = omega (arith, less) in
+    let first : n / 16777216 % 256 ≡ n / 16777216 = omega (arith, small) in
+    ap (λ (d : ℕ). d ∷ n / 65536 % 256 ∷ n / 256 % 256 ∷ n % 256 ∷ []) first

@@ -9,11 +9,12 @@
 -- So a caller opens none of these words. It weakens P, joins one run to the next, begins with a disk at rest, and keeps
 -- through a start what holds of each reading on entry: by `reads_weaker`, `reads_then`, `rest_reads` and `kept_reads`. As each of
 -- its runs may begin at any moment, what stands in every reading at the start of one stands in every reading from then on.
-use Rattle.std.specs.Prelude.{◌≡◌, ◌≤◌, ℕ, List, [], ◌∷◌, ◌++◌}
+use Rattle.std.specs.Prelude.{◌≡◌, ◌≤◌, ◌⊎◌, ℕ, List, [], ◌∷◌, ◌++◌, take}
 use Rattle.rnv_disk.specs.declared.device.FileNo.TheVariants.{Zero}
 use Rattle.rnv_disk.specs.Images.{Image, On, Torn}
 use Rattle.rnv_disk.specs.Stops.{Past, LeftNow, IsDurable, LeavesOnly}
 use Rattle.rnv_journal.specs.File.{body, end_of, counted, spelled, IsImage, IsInMaking}
+use Rattle.rnv_journal.specs.Held.{Held}
 use Rattle.rnv_journal.specs.Reading.{IsReading, HasReadings, EachReading}
 
 -- whatever a stop at this moment leaves has readings
@@ -60,3 +61,7 @@ pub record IsTornFrom (past : Past) (at n : ℕ) (c : Image) : Type 0 where
   pub image : Image
   pub left : LeftNow past image
   pub torn : On Zero (Torn at n) image c
+
+-- the entries, or the entries and the first prepared byte string
+abbrev pub IsOldOrAppended : Held → List (List ℕ) → Type 0
+IsOldOrAppended held list = (list ≡ held.entries) ⊎ (list ≡ held.entries ++ take 1 held.prepared)

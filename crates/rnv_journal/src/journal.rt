@@ -1,46 +1,77 @@
-ghost use Rattle.std.specs.Prelude.{◌≡◌, ◌<◌, ◌≤◌, false, [], length, take, IfOk, IfErr};
+ghost use Rattle.std.specs.Prelude.{◌≡◌, ◌≢◌, ◌⊎◌, ◌↔◌, ◌+◌, ◌<◌, ◌≤◌, ◌^◌, ◌-◌, ℕ, min, true, false, List as Items, [], ◌++◌, length, take, drop, IfOk, IfErr, IsErrOf, OnOk, OnErr};
 ghost use Rattle.rnv_base.specs.Causes.{FaultsBy};
 ghost use Rattle.rnv_disk.specs.Stops.{LeftNow, LeavesOnly};
-ghost use Rattle.rnv_journal.specs.File.{end_of};
+ghost use Rattle.rnv_journal.specs.File.{end_of, counted};
 ghost use Rattle.rnv_journal.specs.Found.{strings};
+ghost use Rattle.rnv_journal.specs.Held.{IsTooLong, appended};
 ghost use Rattle.rnv_journal.specs.Reading.{ReadsAs};
-ghost use Rattle.rnv_journal.specs.Readings.{KeepsReadings, IsAtRest};
+ghost use Rattle.rnv_journal.specs.Readings.{KeepsReadings, ReadsOnly, IsAtRest, IsOldOrAppended};
+ghost use Rattle.rnv_journal.specs.declared.journal.PrepareError.TheVariants.{Full};
 ghost use Rattle.rnv_journal.specs.Start.{IsRefusal, UnlessFault, WhereNoJournal};
 
+use crate::append::append_line;
+use crate::line::{Line, length_after, lines};
 use crate::start::{StartError, entries_at_rest};
 use rnv_base::{Bytes, List};
 use rnv_disk::Disk;
-use std::alloc::Global;
+use std::alloc::{AllocError, Global};
+use std::collections::VecDeque;
 use std::convert::AsSlice;
 use std::marker::Model;
+
+/// Why nothing was prepared.
+#[derive(Clone, Copy, Debug, PartialEq, Eq)]
+pub enum PrepareError {
+    /// A fault of the disk has closed the journal.
+    Closed,
+    /// The file would be longer than the limit.
+    Full {
+        /// The file's length, up to and with its last gate, after all of the byte strings, or
+        /// 18446744073709551615 where it is greater.
+        length: u64,
+        /// The limit.
+        limit: u64,
+    },
+    /// Want of memory.
+    Memory,
+}
+
+/// Why the next byte string was not appended, or maybe not.
+#[derive(Clone, Copy, Debug, PartialEq, Eq)]
+pub enum AppendError {
+    /// A fault of the disk, which it has counted. The journal is closed, and a new start tells
+    /// whether the byte string was appended.
+    DiskFault,
+    /// An earlier fault of the disk has closed the journal. Nothing was done.
+    Closed,
+}
 
 /// A list of byte strings on file `Zero` of a disk, which survives a stop at any moment.
 #[derive(Drop)]
 pub struct Journal {
-    entries: List<Bytes>,
-    prepared: List<Bytes>,
+    entries: Vec<Bytes>,
+    prepared: VecDeque<Line>,
     limit: u64,
     end: u64,
     closed: bool,
 }
 
 impl Model for Journal {
-    ghost use Rattle.std.specs.Prelude.{◌≡◌, ◌≤◌};
-    ghost use Rattle.rnv_journal.specs.File.{end_of};
+    ghost use Rattle.std.specs.Prelude.{vec_capacity};
     ghost use Rattle.rnv_journal.specs.Found.{strings};
-    ghost use Rattle.rnv_journal.specs.Held.{Held};
+    ghost use Rattle.rnv_journal.specs.Held.{Held, payloads, IsHeld};
 
     ghost Value = { Held };
 
-    ghost view = { λ j. record { entries = strings j.entries; prepared = strings j.prepared; limit = j.limit; closed = j.closed } };
+    ghost view = { λ j. record { entries = strings j.entries.items; prepared = payloads j.prepared.items; limit = j.limit; closed = j.closed } };
 
-    ghost invariant = { λ j. j.end ≡ end_of (strings j.entries) };
+    ghost invariant = { λ j. IsHeld j.entries.items (vec_capacity j.entries) j.prepared.items j.limit j.end };
 }
 
 impl Journal {
     /// The journal on file `Zero`, which it makes where a making was stopped or never begun. The
     /// limit, from 14 to 4294967295 bytes, is on the file's length up to and with its last gate.
-    /// `DiskFault` only where the disk counted a fault; `NotAJournal` exactly where the bytes are no
+    /// `DiskFault` only where the disk counted a fault; `NotAJournal` only where the bytes are no
     /// journal within the limit, with the offset at which they go wrong; `Memory`.
     pub fn start<D: Disk>(alloc: Global, disk: &mut D, limit: u64) -> Result<Journal, StartError>
         requires enough { 14 ≤ limit }
@@ -57,8 +88,8 @@ impl Journal {
     {
         match entries_at_rest(alloc, disk, limit) {
             Ok((entries, end)) => Ok(Journal {
-                entries,
-                prepared: List::empty(alloc),
+                entries: entries.into_inner(),
+                prepared: VecDeque::new(alloc),
                 limit,
                 end,
                 closed: false,
@@ -71,7 +102,7 @@ impl Journal {
     pub fn entries(&self) -> &[Bytes]
         ensures { strings result.now ≡ self.now.entries }
     {
-        self.entries.as_slice()
+        &self.entries
     }
 
     /// The offset of the gate of the entry with this index, which is below the number of entries.
@@ -79,7 +110,90 @@ impl Journal {
         requires { index < length self.now.entries }
         ensures { result ≡ end_of (take index self.now.entries) }
     {
-        end_behind(&self.entries.as_slice()[..index], self.end)
+        end_behind(&self.entries[..index], self.end)
+    }
+
+    /// Makes these byte strings the ones that come next, in order, in place of those that were
+    /// prepared before, and the room for them, so that `append_next` takes no memory. `Closed`
+    /// exactly after a fault of the disk in an `append_next`; `Full` exactly where the file's length
+    /// after all of them would be above the limit, with that length, or 2^64 - 1 where it is
+    /// greater; `Memory`. After a refusal nothing is prepared.
+    pub fn prepare(&mut self, alloc: Global, list: List<Bytes>) -> Result<(), PrepareError>
+        ensures ok { OnOk result (self.new ≡ record self.old { prepared = strings list }) }
+        ensures err { OnErr result (self.new ≡ record self.old { prepared = [] }) }
+        ensures within { OnOk result (counted (self.old.entries ++ strings list) ≤ self.old.limit) }
+        ensures full { (length limit : ℕ) → IsErrOf result (Full length limit) ↔ IsTooLong self.old (strings list) length limit }
+        ensures closed { IsErrOf result PrepareError.Closed ↔ (self.old.closed ≡ true) }
+    {
+        self.prepared = VecDeque::new(alloc);
+        if self.closed {
+            return Err(PrepareError::Closed);
+        }
+        let length = length_after(self.end, list.as_slice());
+        if length > self.limit {
+            return Err(PrepareError::Full {
+                length,
+                limit: self.limit,
+            });
+        }
+        match self.make_room(alloc, list) {
+            Ok(()) => Ok(()),
+            Err(_) => Err(PrepareError::Memory),
+        }
+    }
+
+    // Prepares byte strings that the limit has room for, where nothing is prepared.
+    fn make_room(&mut self, alloc: Global, list: List<Bytes>) -> Result<(), AllocError>
+        requires none { self.old.prepared ≡ [] }
+        requires within { counted (self.old.entries ++ strings list) ≤ self.old.limit }
+        ensures ok { OnOk result (self.new ≡ record self.old { prepared = strings list }) }
+        ensures err { OnErr result (self.new ≡ self.old) }
+    {
+        self.entries.reserve(list.len())?;
+        self.prepared = lines(alloc, list)?;
+        Ok(())
+    }
+
+    /// Appends the next prepared byte string to the file, by two writes that each end with a sync.
+    /// Something is prepared, and unless the journal is closed the disk is at rest at the entries.
+    /// A stop at any moment leaves the entries as they were, or those and that string; takes no
+    /// memory. `DiskFault` only where the disk counted a fault, and from then on the journal is
+    /// closed, and only a new start is of use; `Closed` exactly after such a fault.
+    pub fn append_next<D: Disk>(&mut self, disk: &mut D) -> Result<(), AppendError>
+        requires prepared { self.old.prepared ≢ [] }
+        requires at_rest { self.old.closed ≡ false → IsAtRest self.old.limit (D.past disk.old) self.old.entries }
+        ensures any_moment { self.old.closed ≡ false → ReadsOnly self.old.limit (D.past disk.old) (D.past disk.new) (IsOldOrAppended self.old) }
+        ensures at_rest { OnOk result (IsAtRest self.old.limit (D.past disk.new) self.new.entries) }
+        ensures ok { OnOk result (self.new ≡ appended self.old) }
+        ensures err { OnErr result (self.new ≡ record self.old { closed = true }) }
+        ensures closed { IsErrOf result AppendError.Closed ↔ (self.old.closed ≡ true) }
+        ensures idle { self.old.closed ≡ true → disk.new ≡ disk.old }
+        ensures cause { FaultsBy (D.faults disk.old) (D.faults disk.new) result AppendError.DiskFault }
+    {
+        if self.closed {
+            return Err(AppendError::Closed);
+        }
+        match append_line(disk, self.end, self.prepared[0].written.as_slice()) {
+            Ok(()) => {
+                self.take_next();
+                Ok(())
+            }
+            Err(_) => {
+                self.closed = true;
+                Err(AppendError::DiskFault)
+            }
+        }
+    }
+
+    // Moves the first prepared byte string to the end of the entries.
+    fn take_next(&mut self)
+        requires { self.old.prepared ≢ [] }
+        ensures { self.new ≡ appended self.old }
+    {
+        if let Some(line) = self.prepared.pop_front() {
+            self.end += 5 + line.payload.as_slice().len() as u64;
+            self.entries.push_reserved(line.payload);
+        }
     }
 }
 

@@ -4,6 +4,7 @@
 mod append;
 mod head;
 mod journal;
+mod line;
 mod making;
 mod reading;
 mod start;
@@ -11,5 +12,5 @@ mod start;
 mod tests;
 mod writing;
 
-pub use journal::Journal;
+pub use journal::{AppendError, Journal, PrepareError};
 pub use start::StartError;

@@ -2,7 +2,7 @@ ghost use Rattle.std.specs.Prelude.{◌≡◌, ◌≤◌, ℕ, List, length, IfO
 ghost use Rattle.rnv_base.specs.Causes.{FaultsBy};
 ghost use Rattle.rnv_disk.specs.declared.device.FileNo.TheVariants.{Zero};
 ghost use Rattle.rnv_disk.specs.Stops.{LeftNow, IsDurable, LeavesOnly};
-ghost use Rattle.rnv_journal.specs.File.{end_of};
+ghost use Rattle.rnv_journal.specs.File.{end_of, counted};
 ghost use Rattle.rnv_journal.specs.Found.{strings};
 ghost use Rattle.rnv_journal.specs.Reading.{ReadsAs};
 ghost use Rattle.rnv_journal.specs.Readings.{KeepsReadings, IsAtRest};
@@ -41,6 +41,7 @@ pub(crate) fn entries_at_rest<D: Disk>(
     ensures any_moment { KeepsReadings limit (D.past disk.old) (D.past disk.new) }
     ensures at_rest { IfOk result (λ found. IsAtRest limit (D.past disk.new) (strings found.0)) }
     ensures end { IfOk result (λ found. found.1 ≡ end_of (strings found.0)) }
+    ensures within { IfOk result (λ found. counted (strings found.0) ≤ limit) }
     ensures entries { D.tells → IfOk result (λ found. ReadsAs limit (D.seen disk.old).zero (strings found.0)) }
     ensures refused { D.tells → IfErr result (λ error. IsRefusal limit (D.seen disk.old).zero error) }
     ensures only_read { IfErr result (λ error. UnlessFault error (LeavesOnly (D.past disk.old) (D.past disk.new) (LeftNow (D.past disk.old)))) }
@@ -67,6 +68,7 @@ fn settled<D: Disk>(
     ensures any_moment { KeepsReadings limit (D.past disk.old) (D.past disk.new) }
     ensures at_rest { IfOk result (λ found. IsAtRest limit (D.past disk.new) (strings found.0)) }
     ensures end { IfOk result (λ found. found.1 ≡ end_of (strings found.0)) }
+    ensures within { IfOk result (λ found. counted (strings found.0) ≤ limit) }
     ensures entries { IfOk result (λ found. ReadsAs limit bytes.now (strings found.0)) }
     ensures refused { IfErr result (λ error. IsRefusal limit bytes.now error) }
     ensures only_read { IfErr result (λ error. UnlessFault error (disk.new ≡ disk.old)) }
