@@ -1,10 +1,10 @@
 -- For the layer above, which names lists of byte strings alone: how what is said of readings goes on.
-use Rattle.std.proofs.Common.{◌≡◌, ℕ, List, subst, sym}
+use Rattle.std.proofs.Common.{◌≡◌, ◌≤◌, ℕ, List, ⊎_elim, subst, sym}
 use Rattle.rnv_disk.specs.Images.{Image}
 use Rattle.rnv_disk.specs.Stops.{Past, LeftNow, LeavesOnly}
 use Rattle.rnv_disk.proofs.Moments.{started, joined, widened, ended}
 use Rattle.rnv_journal.specs.Reading.{EachReading}
-use Rattle.rnv_journal.specs.Readings.{HasReadingsNow, IsReadingNow, EachReadingNow, ReadsOnly, KeepsReadings, IsAtRest}
+use Rattle.rnv_journal.specs.Readings.{HasReadingsNow, IsReadingNow, EachReadingNow, ReadsOnly, ReadsOnlySince, KeepsReadings, IsAtRest}
 
 module _ (limit : ℕ) where
   -- what holds of each reading may be said more weakly
@@ -34,3 +34,16 @@ module _ (limit : ℕ) where
   pub kept_reads : (old new : Past) (P : List (List ℕ) → Type 0) → EachReadingNow limit P old → KeepsReadings limit old new → ReadsOnly limit old new P
   kept_reads old new P each keeps =
       reads_weaker old new (IsReadingNow limit old) P (λ list now. (each now.image now.left).each list now.reading) (keeps (λ c left. (each c left).some))
+
+  -- since the run began
+  pub reads_since : (old new : Past) (P : List (List ℕ) → Type 0) → ReadsOnly limit old new P → ReadsOnlySince limit old.moment new P
+  reads_since old new P run = run.each
+
+  -- what holds since a moment goes on through a run
+  pub since_then : (moment : ℕ) (old new : Past) (P : List (List ℕ) → Type 0) → moment ≤ old.moment → ReadsOnlySince limit moment old P → ReadsOnly limit old new P
+      → ReadsOnlySince limit moment new P
+  since_then moment old new P le before run c left = ⊎_elim (before c) (λ each. each) (run.before moment c le left)
+
+  -- a run does not go back in time
+  pub reads_later : (old new : Past) (P : List (List ℕ) → Type 0) → ReadsOnly limit old new P → old.moment ≤ new.moment
+  reads_later old new P run = run.later

@@ -35,6 +35,10 @@ EachReadingNow limit P past = (c : Image) → LeftNow past c → EachReading lim
 abbrev pub ReadsOnly : ℕ → Past → Past → (List (List ℕ) → Type 0) → Type 0
 ReadsOnly limit old new P = LeavesOnly old new (λ c. EachReading limit P c.zero)
 
+-- the same since a moment before new
+abbrev pub ReadsOnlySince : ℕ → ℕ → Past → (List (List ℕ) → Type 0) → Type 0
+ReadsOnlySince limit moment new P = (c : Image) → new.left moment c → EachReading limit P c.zero
+
 -- From a disk that has readings, a stop at any moment since old leaves a disk that has readings, each of them one of those at old.
 abbrev pub KeepsReadings : ℕ → Past → Past → Type 0
 KeepsReadings limit old new = HasReadingsNow limit old → ReadsOnly limit old new (IsReadingNow limit old)

@@ -105,6 +105,13 @@ impl Journal {
         &self.entries
     }
 
+    /// How many byte strings are prepared and not yet appended.
+    pub fn prepared(&self) -> usize
+        ensures { result ≡ length self.now.prepared }
+    {
+        self.prepared.len()
+    }
+
     /// The offset of the gate of the entry with this index, which is below the number of entries.
     pub fn place(&self, index: usize) -> u64
         requires { index < length self.now.entries }
