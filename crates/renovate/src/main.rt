@@ -1,6 +1,7 @@
 //! The program: plans over the folder where it runs, prints the plan, and ends with the status.
 #![tactic(auto)]
 
+mod here_disk;
 mod here_folder;
 mod stream_sink;
 #[cfg(test)]

@@ -1,6 +1,8 @@
+use crate::here_disk::HereDisk;
 use crate::here_folder::HereFolder;
 use crate::stream_sink::StreamSink;
 use rnv_base::{Failed, Folder, Sink};
+use rnv_disk::{Disk, DiskError, FileNo};
 use std::convert::{AsSlice, AsStr};
 use std::test::Fail;
 use std::{env, fs, process};
@@ -69,5 +71,38 @@ fn bytes_out(rt: HostRuntime) -> Result<(), Fail> {
         assert_eq!(rt; sink.write(b"d"), Err(Failed));
     }
     assert_eq!(rt; room.as_slice(), b"abc".as_slice());
+    Ok(())
+}
+
+#[test]
+fn two_files(rt: HostRuntime) -> Result<(), Fail> {
+    let number = process::id(rt.process());
+    let name = format!(in rt.alloc(); "rnv_here_disk_{number}")?;
+    let place = env::temp_dir(&rt)?.join(rt.alloc(), name.as_str())?;
+    fs::create_dir_all(&rt, place.as_path())?;
+    env::set_current_dir(&rt, place.as_path())?;
+    let mut disk = HereDisk::new(rt.clone()?);
+    assert_eq!(rt; disk.write_at(FileNo::Zero, 0, b"abcdef"), Ok(()));
+    assert_eq!(rt; disk.write_at(FileNo::Zero, 4, b"EFG"), Ok(()));
+    assert_eq!(rt; disk.write_at(FileNo::One, 0, b"other"), Ok(()));
+    assert_eq!(rt; disk.sync(FileNo::Zero), Ok(()));
+    assert_eq!(rt; disk.cut(FileNo::Zero, 5), Ok(()));
+    assert_eq!(rt; disk.cut(FileNo::One, 9), Ok(()));
+    // Another adapter over the same files.
+    let mut again = HereDisk::new(rt.clone()?);
+    for (file, want) in [(FileNo::Zero, "abcdE"), (FileNo::One, "other")] {
+        let bytes = again.read(rt.alloc(), file).map_err(|_| "no bytes")?;
+        assert_eq!(rt; bytes.as_slice(), want.as_bytes());
+    }
+    fs::remove_dir_all(&rt, place.as_path())?;
+    // A name that is a folder can't be opened.
+    fs::create_dir_all(&rt, place.as_path())?;
+    env::set_current_dir(&rt, place.as_path())?;
+    fs::create_dir_all(&rt, "forge.0")?;
+    let mut none = HereDisk::new(rt.clone()?);
+    assert_eq!(rt; none.write_at(FileNo::Zero, 0, b"a"), Err(Failed));
+    assert_eq!(rt; none.sync(FileNo::Zero), Err(Failed));
+    assert_eq!(rt; none.read(rt.alloc(), FileNo::Zero).err(), Some(DiskError::Failed));
+    fs::remove_dir_all(&rt, place.as_path())?;
     Ok(())
 }

@@ -1,10 +1,14 @@
 //! Appends what a journal has prepared, as a caller that knows the journal by lists of byte strings alone.
 #![tactic(auto)]
+
 ghost use Rattle.std.specs.Prelude.{◌≡◌, ◌<◌, ◌≤◌, ◌+◌, ℕ, true, false, [], ◌++◌, length, take, drop, OnOk, OnErr};
 ghost use Rattle.rnv_base.specs.Causes.{FaultsBy};
 ghost use Rattle.rnv_disk.specs.Stops.{LeftNow, LeavesOnly};
 ghost use Rattle.rnv_journal.specs.Readings.{ReadsOnly, IsAtRest};
 ghost use Rattle.rnv_append.specs.Front.{IsFront, StandsSince, IsStopped};
+
+#[cfg(test)]
+mod tests;
 
 use rnv_disk::Disk;
 use rnv_journal::{AppendError, Journal};

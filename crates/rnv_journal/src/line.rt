@@ -51,7 +51,9 @@ pub(crate) fn length_after(end: u64, list: &[Bytes]) -> u64
 {
     let mut length = end.saturating_add(1);
     for payload in list {
-        length = length.saturating_add(5).saturating_add(payload.as_slice().len() as u64);
+        length = length
+            .saturating_add(5)
+            .saturating_add(payload.as_slice().len() as u64);
     }
     length
 }

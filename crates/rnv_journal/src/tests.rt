@@ -68,3 +68,85 @@ fn a_torn_gate_is_closed(rt: HostRuntime) -> Result<(), Fail> {
     assert_eq!(rt; disk.part(FileNo::Zero), closed.as_slice());
     Ok(())
 }
+
+// What is read of a file that is cut or changed: the entries that the file spells at its front, or the first gate that is missing
+// or whose entry is.
+fn read_of_damaged(alloc: Global, file: &[u8]) -> Result<bool, Fail> {
+    let mut damaged = disk(alloc, file, b"")?;
+    match Journal::start(alloc, &mut damaged, 1000) {
+        Ok(journal) => Ok(file.len() <= 1 || spells(alloc, &journal, file)?),
+        Err(StartError::NotAJournal { offset: 0 }) => Ok(!file.starts_with(HEAD)),
+        Err(StartError::NotAJournal { offset }) => is_first_wrong(alloc, file, offset as usize),
+        Err(_) => Ok(false),
+    }
+}
+
+// Whether the file begins with these entries, and a gate that is not open stands behind them.
+fn spells(alloc: Global, journal: &Journal, file: &[u8]) -> Result<bool, Fail> {
+    let spelled = spelled(alloc, journal)?;
+    Ok(
+        file.starts_with(spelled.as_slice())
+            && file.get(spelled.len()).is_some_and(|gate| *gate != 1),
+    )
+}
+
+// The head and the entries.
+fn spelled(alloc: Global, journal: &Journal) -> Result<Vec<u8>, Fail> {
+    let mut spelled = Vec::from_slice(alloc, HEAD)?;
+    for entry in journal.entries() {
+        let payload = entry.as_slice();
+        spelled.push(1)?;
+        spelled.extend_from_slice(
+            ((payload.len() % 4294967296) as u32)
+                .to_be_bytes()
+                .as_slice(),
+        )?;
+        spelled.extend_from_slice(payload)?;
+    }
+    Ok(spelled)
+}
+
+// Whether the front up to this offset is whole entries, and no gate, or an open one without its entry, stands there.
+fn is_first_wrong(alloc: Global, file: &[u8], offset: usize) -> Result<bool, Fail> {
+    let Some(front) = file.get(..offset) else {
+        return Ok(false);
+    };
+    let mut ended = disk(alloc, front, b"\x00")?;
+    let journal = Journal::start(alloc, &mut ended, 1000).map_err(|_| "no journal")?;
+    let rest = file.get(offset..).unwrap_or(&[]);
+    let missing = match rest {
+        [] => true,
+        [1, a, b, c, d, payload @ ..] => {
+            (u32::from_be_bytes([*a, *b, *c, *d]) as usize) > payload.len()
+        }
+        [1, ..] => true,
+        _ => false,
+    };
+    Ok(missing && spelled(alloc, &journal)?.as_slice() == front)
+}
+
+#[test]
+fn damaged_files(rt: HostRuntime) -> Result<(), Fail> {
+    let alloc = rt.alloc();
+    let mut file = Vec::from_slice(alloc, HEAD)?;
+    file.extend_from_slice(
+        b"\x01\x00\x00\x00\x02xy\x01\x00\x00\x00\x00\x01\x00\x00\x00\x03abc\x00",
+    )?;
+    for length in 0..=file.len() {
+        let front = file.get(..length).unwrap_or(&[]);
+        assert!(rt; read_of_damaged(alloc, front)?, "the first {length} bytes");
+    }
+    for at in 0..file.len() {
+        for byte in [0, 1, 7, 255] {
+            let mut changed = Vec::from_slice(alloc, file.as_slice())?;
+            if let Some(place) = changed.get_mut(at) {
+                *place = byte;
+            }
+            assert!(rt;
+                read_of_damaged(alloc, changed.as_slice())?,
+                "{byte} at {at}"
+            );
+        }
+    }
+    Ok(())
+}
