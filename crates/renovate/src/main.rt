@@ -2,6 +2,7 @@
 #![tactic(auto)]
 
 mod here_disk;
+mod here_file;
 mod here_folder;
 mod stream_sink;
 #[cfg(test)]
