@@ -1,12 +1,12 @@
 -- One append more.
-use Rattle.std.proofs.Common.{◌≡◌, ◌≢◌, ◌≤◌, ◌<◌, ◌+◌, ◌⊎◌, inl, inr, ℕ, zero, suc, List, [], ◌∷◌, ◌++◌, length, take, drop, refl, sym, ◌∙◌, ap, subst, arith, append_assoc, append-nil}
+use Rattle.std.proofs.Common.{◌≡◌, ◌≢◌, ◌≤◌, ◌<◌, ◌+◌, inl, inr, ℕ, zero, suc, List, [], ◌∷◌, ◌++◌, length, take, drop, refl, sym, ◌∙◌, ap, subst, arith, append_assoc, append-nil}
 use Rattle.std.proofs.lemmas.Bool.{cases_lt}
 use Rattle.rnv_disk.specs.Stops.{Past}
 use Rattle.rnv_journal.specs.Held.{Held, appended}
 use Rattle.rnv_journal.specs.Reading.{EachReading}
-use Rattle.rnv_journal.specs.Readings.{ReadsOnly, ReadsOnlySince, IsAtRest, IsOldOrAppended}
+use Rattle.rnv_journal.specs.Readings.{ReadsOnly, IsAtRest, IsOldOrAppended}
 use Rattle.rnv_journal.proofs.Uses.{reads_weaker, reads_first, reads_then, rest_reads, since_then, reads_later}
-use Rattle.rnv_append.specs.Front.{IsFront, StandsSince, IsStopped}
+use Rattle.rnv_append.specs.Front.{IsFront, StandsSince}
 
 take_more : (i : ℕ) (xs : List (List ℕ)) → take i xs ++ take 1 (drop i xs) ≡ take (suc i) xs
 take_more zero [] = refl

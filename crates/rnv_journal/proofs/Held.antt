@@ -1,11 +1,10 @@
 -- What a journal holds, and what the first prepared byte string makes of it.
-use Rattle.std.proofs.Common.{◌≡◌, ◌≢◌, ◌≤◌, ◌<◌, ◌⊎◌, ◌+◌, ◌-◌, ℕ, zero, suc, Bool, false, Result, Err, IsErrOf, List, [], ◌∷◌, ◌++◌, length, get_or, take, drop, map, refl, sym, ◌∙◌, ap, subst, arith, append_assoc, append-nil, length-append}
-use Rattle.std.specs.List.{All}
+use Rattle.std.proofs.Common.{◌≡◌, ◌≢◌, ◌≤◌, ◌<◌, ◌⊎◌, ◌+◌, ◌-◌, ℕ, zero, suc, Bool, false, Result, Err, IsErrOf, List, [], ◌∷◌, ◌++◌, length, get_or, take, refl, sym, ◌∙◌, ap, subst, arith, append_assoc, append-nil, length-append}
 use Rattle.std.proofs.lemmas.List.Elements.{All-nil}
 use Rattle.rnv_base.specs.Buffer.{Buffer}
 use Rattle.rnv_disk.specs.Stops.{Past}
 use Rattle.rnv_journal.specs.declared.line.Line.{Line}
-use Rattle.rnv_journal.specs.File.{body, end_of, counted}
+use Rattle.rnv_journal.specs.File.{end_of, counted}
 use Rattle.rnv_journal.specs.Found.{strings}
 use Rattle.rnv_journal.specs.Held.{Held, payloads, appended, IsLine, IsHeld, IsTooLong}
 use Rattle.rnv_journal.specs.declared.journal.PrepareError.{PrepareError}

@@ -1,10 +1,10 @@
 -- For the layer above, which names lists of byte strings alone: how what is said of readings goes on.
 use Rattle.std.proofs.Common.{◌≡◌, ◌≤◌, ℕ, List, ⊎_elim, subst, sym}
 use Rattle.rnv_disk.specs.Images.{Image}
-use Rattle.rnv_disk.specs.Stops.{Past, LeftNow, LeavesOnly}
+use Rattle.rnv_disk.specs.Stops.{Past}
 use Rattle.rnv_disk.proofs.Moments.{started, joined, widened, ended}
 use Rattle.rnv_journal.specs.Reading.{EachReading}
-use Rattle.rnv_journal.specs.Readings.{HasReadingsNow, IsReadingNow, EachReadingNow, ReadsOnly, ReadsOnlySince, KeepsReadings, IsAtRest}
+use Rattle.rnv_journal.specs.Readings.{IsReadingNow, EachReadingNow, ReadsOnly, ReadsOnlySince, KeepsReadings, IsAtRest}
 
 module _ (limit : ℕ) where
   -- what holds of each reading may be said more weakly

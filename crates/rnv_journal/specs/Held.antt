@@ -1,5 +1,5 @@
 -- What a journal holds, and what a call leaves of it.
-use Rattle.std.specs.Prelude.{◌≡◌, ◌<◌, ◌≤◌, ℕ, ◌+◌, ◌-◌, ◌^◌, Bool, true, false, List, [], ◌∷◌, ◌++◌, length, map, min, take, drop}
+use Rattle.std.specs.Prelude.{◌≡◌, ◌<◌, ◌≤◌, ℕ, ◌+◌, ◌-◌, ◌^◌, Bool, false, List, [], ◌∷◌, ◌++◌, length, map, min, take, drop}
 use Rattle.std.specs.List.{All}
 use Rattle.rnv_base.specs.Buffer.{Buffer}
 use Rattle.rnv_journal.specs.File.{body, end_of, counted}

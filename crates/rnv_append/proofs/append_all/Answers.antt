@@ -1,6 +1,6 @@
-use Rattle.std.proofs.Common.{◌≡◌, ◌≢◌, ◌<◌, ◌+◌, ◌∙◌, ℕ, List, [], length, drop, true, sym, ap, subst, rules, arith, add-one}
+use Rattle.std.proofs.Common.{◌<◌, ◌∙◌, length, true, sym, ap, arith, add-one}
 use Rattle.rnv_journal.specs.Held.{Held}
-use Rattle.rnv_append.proofs.Turns.{Appending, begins, drop_some, turn_reads, turn_since, turned, prepared_left}
+use Rattle.rnv_append.proofs.Turns.{begins, drop_some, turn_reads, turn_since, turned, prepared_left}
 use Rattle.rnv_append.proofs.append_all.Goals as goal
 
 pub loop-init : goal.loop-init

@@ -1,6 +1,5 @@
-use Rattle.std.proofs.Common.{◌≡◌, ◌<◌, ◌++◌, ◌∷◌, ◌∙◌, [], List, ℕ, length, refl, ap, rules}
+use Rattle.std.proofs.Common.{◌≡◌, ◌++◌, ◌∷◌, ◌∙◌, [], List, ℕ, length, refl, ap, rules}
 use Rattle.std.specs.Int.{w32, to_be_bytes}
-use Rattle.rnv_journal.specs.File.{four_bytes}
 use Rattle.rnv_journal.proofs.Numbers.{be_four}
 use Rattle.rnv_journal.proofs.line.written_line.Goals as goal
 

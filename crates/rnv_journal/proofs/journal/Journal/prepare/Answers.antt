@@ -1,4 +1,4 @@
-use Rattle.std.proofs.Common.{◌≡◌, ◌≤◌, ◌++◌, ◌-◌, ◌^◌, min, ℕ, List, refl, ap, subst, rules, arith}
+use Rattle.std.proofs.Common.{◌≡◌, ◌≤◌, ◌++◌, ◌-◌, ◌^◌, min, List, refl, ap, subst, arith}
 use Rattle.rnv_base.specs.Buffer.{Buffer}
 use Rattle.rnv_journal.specs.File.{end_of, counted}
 use Rattle.rnv_journal.specs.Found.{strings}

@@ -1,4 +1,4 @@
-use Rattle.std.proofs.Common.{◌≡◌, ◌+◌, ℕ, List, [], ◌∷◌, ◌++◌, length, sym, ap, subst, arith}
+use Rattle.std.proofs.Common.{◌+◌, ℕ, List, ◌∷◌, length, sym, ap, subst, arith}
 use Rattle.std.specs.Vec.{vec_capacity}
 use Rattle.rnv_base.specs.Buffer.{Buffer}
 use Rattle.rnv_journal.specs.declared.line.Line.{Line}
