@@ -1,0 +1,19 @@
+//! The repositories of the forge: their records, the writes that change them, and how a write is
+//! spelled as bytes.
+#![tactic(auto)]
+
+mod branch;
+mod delivery;
+mod file;
+mod refusal;
+mod repo;
+mod request;
+mod write;
+
+pub use branch::{Branch, Key};
+pub use delivery::{Delivery, Event};
+pub use file::{EditedFile, FileAt, FileChange};
+pub use refusal::Refusal;
+pub use repo::Repo;
+pub use request::{Request, RequestState};
+pub use write::Write;
