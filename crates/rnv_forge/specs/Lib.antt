@@ -1,1 +1,4 @@
 pub mod Files
+pub mod Filled
+pub mod Reading
+pub mod Spelling

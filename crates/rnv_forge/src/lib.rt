@@ -5,9 +5,13 @@
 mod branch;
 mod delivery;
 mod file;
+mod parts;
+mod reading;
 mod refusal;
 mod repo;
 mod request;
+mod spelled;
+mod spelling;
 mod write;
 
 pub use branch::{Branch, Key};
@@ -16,4 +20,5 @@ pub use file::{EditedFile, FileAt, FileChange};
 pub use refusal::Refusal;
 pub use repo::Repo;
 pub use request::{Request, RequestState};
+pub use spelling::spell;
 pub use write::Write;
