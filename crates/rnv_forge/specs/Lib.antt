@@ -2,3 +2,4 @@ pub mod Files
 pub mod Filled
 pub mod Reading
 pub mod Spelling
+pub mod WellFormed
