@@ -1,3 +1,4 @@
 pub mod Formats
 pub mod Readings
+pub mod Rising
 pub mod WriteFormats

@@ -1,10 +1,10 @@
 -- The bytes of a write are read exactly where they spell one.
-use Rattle.std.proofs.Common.{◌≡◌, ℕ, suc, Bool, true, false, cond, eqb, List, [], ◌∷◌, ◌++◌, length, Option, Some, None, refl, sym, ap, subst, ◌∙◌, append_assoc}
-use Rattle.std.specs.Prelude.{IfSome}
+use Rattle.std.proofs.Common.{◌≡◌, ◌<◌, ◌≤◌, arith, inl, inr, ℕ, suc, Bool, true, false, cond, eqb, List, [], ◌∷◌, ◌++◌, length, Option, Some, None, refl, sym, ap, subst, ◌∙◌, append_assoc}
+use Rattle.std.specs.Prelude.{All, IfSome}
 use Rattle.std.specs.List.{flat_map, AllByRecursion}
 use Rattle.std.specs.Str.{IsUtf8}
-use Rattle.std.proofs.lemmas.Bool.{eqb-true}
-use Rattle.std.proofs.lemmas.List.{append-nil, nil_from_length}
+use Rattle.std.proofs.lemmas.Bool.{cases_lt, eqb-true}
+use Rattle.std.proofs.lemmas.List.{append-nil, get_or_past, nil_from_length}
 use Rattle.rnv_base.specs.Files.{NamedFile}
 use Rattle.rnv_forge.specs.declared.branch.Branch.{Branch}
 use Rattle.rnv_forge.specs.declared.branch.Key.{Key}
@@ -200,3 +200,10 @@ whole_takes bytes w fits e =
 pub whole_again : (bytes : List ℕ) (w : Write) → IsBytes bytes → HasTexts w → bytes ≡ spelling w → whole_write bytes ≡ Some w
 unfolding whole_write
 whole_again bytes w fits texts e = rw (write_again w bytes [] fits texts (e ∙ sym (append-nil (spelling w)))) refl
+
+pub are_bytes : (bytes : List ℕ) → All (λ b. b < 256) bytes → IsBytes bytes
+are_bytes bytes h i =
+    elim (cases_lt i (length bytes)) [
+      | inl lt ↦ h i 0 lt
+      | inr le ↦ rw (get_or_past bytes i 0 le) (omega arith)
+    ]

@@ -1,14 +1,15 @@
 -- Which values are writes: texts are UTF-8, names are repository names, and paths are paths and rise.
-use Rattle.std.specs.Prelude.{◌≡◌, ℕ, List, [], ◌∷◌, ◌++◌, Option, None, Some, All, map, IfSome}
+use Rattle.std.specs.Prelude.{◌≡◌, ℕ, List, [], ◌∷◌, ◌++◌, Option, None, Some, All, IfSome}
 use Rattle.std.specs.List.{AllByRecursion}
 use Rattle.std.specs.Str.{IsUtf8}
-use Rattle.rnv_base.specs.Files.{NamedFile, IsRising}
+use Rattle.rnv_base.specs.Files.{NamedFile}
 use Rattle.rnv_base.specs.Names.{IsPath, IsRepositoryName}
 use Rattle.rnv_forge.specs.declared.branch.Branch.{Branch}
 use Rattle.rnv_forge.specs.declared.branch.Key.{Key}
 use Rattle.rnv_forge.specs.declared.write.Write.{Write}
 use Rattle.rnv_forge.specs.declared.write.Write.TheVariants.{SetBase, PutBranch, DropBranch, OpenRequest, EditRequest, Autoclose, Finish}
 use Rattle.rnv_forge.specs.Files.{PathChange}
+use Rattle.rnv_forge.specs.Named.{IsRisingBy}
 
 -- the name of the repository that a write changes
 abbrev pub repo_of : Write → List ℕ
@@ -20,24 +21,24 @@ repo_of (EditRequest repo number updates title body labels) = repo
 repo_of (Autoclose repo number) = repo
 repo_of (Finish repo page) = repo
 
--- the paths of a write's changes, or of its branch's files
-abbrev pub paths_of : Write → List (List ℕ)
-paths_of (SetBase repo changes) = map (λ c. c.path) changes
-paths_of (PutBranch repo branch) = map (λ f. f.path) branch.files
-paths_of (DropBranch repo name) = []
-paths_of (OpenRequest repo number branch updates title body labels made_at) = []
-paths_of (EditRequest repo number updates title body labels) = []
-paths_of (Autoclose repo number) = []
-paths_of (Finish repo page) = []
+pub record AreInOrder {X : Type 0} (path : X → List ℕ) (xs : List X) : Type 0 where
+  pub each : All (λ x. IsPath (path x)) xs
+  pub rising : IsRisingBy path xs
 
-pub record AreInOrder (paths : List (List ℕ)) : Type 0 where
-  pub each : All IsPath paths
-  pub rising : IsRising paths
+-- the changes of a write, or the files of its branch, have paths that rise
+abbrev pub HasOrder : Write → Type 0
+HasOrder (SetBase repo changes) = AreInOrder (λ c. c.path) changes
+HasOrder (PutBranch repo branch) = AreInOrder (λ f. f.path) branch.files
+HasOrder (DropBranch repo name) = Unit {0}
+HasOrder (OpenRequest repo number branch updates title body labels made_at) = Unit {0}
+HasOrder (EditRequest repo number updates title body labels) = Unit {0}
+HasOrder (Autoclose repo number) = Unit {0}
+HasOrder (Finish repo page) = Unit {0}
 
--- a write names a repository, and its paths are paths in rising order
+-- a write names a repository, and its paths are paths and rise
 pub record IsOrderly (w : Write) : Type 0 where
   pub name : IsRepositoryName (repo_of w)
-  pub files : AreInOrder (paths_of w)
+  pub order : HasOrder w
 
 pub record HasKeyTexts (k : Key) : Type 0 where
   pub file : IsUtf8 k.file

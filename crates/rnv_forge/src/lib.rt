@@ -5,6 +5,7 @@
 mod branch;
 mod delivery;
 mod file;
+mod orderly;
 mod parts;
 mod reading;
 mod refusal;
@@ -17,6 +18,8 @@ mod write;
 pub use branch::{Branch, Key};
 pub use delivery::{Delivery, Event};
 pub use file::{EditedFile, FileAt, FileChange};
+pub use orderly::is_orderly;
+pub use reading::{one_spelling, read_write};
 pub use refusal::Refusal;
 pub use repo::Repo;
 pub use request::{Request, RequestState};

@@ -1,10 +1,14 @@
-ghost use Rattle.std.specs.Prelude.{◌≡◌, ℕ, List, IfOk, IfSome, IfNone};
+ghost use Rattle.std.specs.Prelude.{◌≡◌, ◌<◌, ℕ, List, Some, All, IfOk, IfSome};
+ghost use Rattle.rnv_forge.specs.declared.write.Write.{Write};
+ghost use Rattle.rnv_forge.specs.Spelling.{spelling};
+ghost use Rattle.rnv_forge.specs.WellFormed.{HasTexts, IsWellFormed};
 ghost use Rattle.rnv_forge.specs.Reading.{Gives, base_at, put_at, drop_at, open_at, edit_at, close_at, finish_at, fields_at, write_at, whole_write};
 
+use crate::orderly::is_orderly;
 use crate::spelled::{ReadError, Spelled, read_long, read_number};
 use crate::{Branch, FileChange, Key, Write};
 use rnv_base::{List, Text};
-use std::alloc::Global;
+use std::alloc::{AllocError, Global};
 
 #[tactic(auto, unfolding(crate::specs::Reading::base_at))]
 fn read_base(alloc: Global, bytes: &[u8]) -> Result<(Write, &[u8]), ReadError>
@@ -127,4 +131,30 @@ fn read_whole(alloc: Global, bytes: &[u8]) -> Result<Write, ReadError>
         return Err(ReadError::NotSpelled);
     }
     Ok(write)
+}
+
+/// The write that all the bytes spell, if they spell one that is well-formed. Only memory can fail.
+pub fn read_write(alloc: Global, bytes: &[u8]) -> Result<Option<Write>, AllocError>
+    // What is read is spelled so.
+    ensures read { IfOk result (λ found. IfSome found (λ write. IsWellFormed write × (bytes.now ≡ spelling write))) }
+    // What is spelled so is read.
+    ensures only { (write : Write) → IsWellFormed write → bytes.now ≡ spelling write → IfOk result (λ found. found ≡ Some write) }
+{
+    match read_whole(alloc, bytes) {
+        Ok(write) => {
+            if is_orderly(&write) {
+                Ok(Some(write))
+            } else {
+                Ok(None)
+            }
+        }
+        Err(ReadError::NotSpelled) => Ok(None),
+        Err(ReadError::Memory) => Err(AllocError),
+    }
+}
+
+/// No two writes have one spelling.
+pub fn one_spelling()
+    ensures { (v w : Write) → HasTexts v → HasTexts w → All (λ b. b < 256) (spelling v) → spelling v ≡ spelling w → v ≡ w }
+{
 }
