@@ -1,6 +1,9 @@
+pub mod Base
 pub mod Files
 pub mod Filled
 pub mod Named
 pub mod Reading
+pub mod Requests
 pub mod Spelling
+pub mod Store
 pub mod WellFormed
