@@ -1,4 +1,5 @@
 pub mod Formats
+pub mod Merges
 pub mod Readings
 pub mod Rising
 pub mod WriteFormats

@@ -1,6 +1,7 @@
 pub mod Base
 pub mod Files
 pub mod Filled
+pub mod Merging
 pub mod Named
 pub mod Reading
 pub mod Requests

@@ -2,6 +2,7 @@
 //! spelled as bytes.
 #![tactic(auto)]
 
+mod base;
 mod branch;
 mod delivery;
 mod file;
