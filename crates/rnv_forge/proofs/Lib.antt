@@ -2,4 +2,5 @@ pub mod Formats
 pub mod Merges
 pub mod Readings
 pub mod Rising
+pub mod Texts
 pub mod WriteFormats

@@ -1,8 +1,10 @@
 -- Changes in the order of their paths, merged into files in theirs.
-use Rattle.std.specs.Prelude.{ℕ, Bool, is_some, if◌then◌else◌, List, [], ◌∷◌, Option, None, Some}
+use Rattle.std.specs.Prelude.{◌≡◌, ℕ, Bool, ◌||◌, is_some, ◌++◌, if◌then◌else◌, List, [], ◌∷◌, Option, None, Some}
 use Rattle.std.specs.List.{list_any}
 use Rattle.std.specs.Str.{bytes_eq}
+use Rattle.rnv_forge.specs.Base.{path_of, changed, is_changing}
 use Rattle.rnv_forge.specs.Files.{MarkedFile, PathChange}
+use Rattle.rnv_forge.specs.Named.{IsRisingBy}
 
 abbrev pub change_path : PathChange → List ℕ
 change_path c = c.path
@@ -24,3 +26,10 @@ left_at revision f (Some bytes) =
 -- some change sets a file
 abbrev pub sets_some : List PathChange → Bool
 sets_some cs = list_any (λ c. is_some c.bytes) cs
+
+-- The changes of these up to a file's path are merged with that file: old files and then new ones, as the changes and the file
+-- and whatever is behind it would give them.
+pub record MergesFile (revision : ℕ) (changes : List PathChange) (f : MarkedFile) (old new : List MarkedFile) (rest : List PathChange) (any : Bool) : Type 0 where
+  pub files : (more : List MarkedFile) → IsRisingBy path_of (f ∷ more) → IsRisingBy change_path changes → old ++ changed revision changes (f ∷ more) ≡ new ++ changed revision rest more
+  pub changing : (more : List MarkedFile) → IsRisingBy path_of (f ∷ more) → IsRisingBy change_path changes → is_changing changes (f ∷ more) ≡ (any || is_changing rest more)
+  pub rising : IsRisingBy change_path changes → IsRisingBy change_path rest
