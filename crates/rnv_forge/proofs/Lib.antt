@@ -1,5 +1,6 @@
 pub mod Formats
 pub mod Merges
+pub mod Named
 pub mod Readings
 pub mod Rising
 pub mod Texts

@@ -281,3 +281,7 @@ merged_changing revision left rest f files more old new before any whether is m 
 pub rising_more : (f : MarkedFile) (files more : List MarkedFile) → files ≡ f ∷ more → IsRisingBy path_of files → IsRisingBy path_of more
 unfolding IsStrictlySortedBy
 rising_more f files more is rising = let r : IsRisingBy path_of (f ∷ more) = rw is at rising in r.1
+
+pub rising_nothing : (files : List MarkedFile) → files ≡ [] → IsRisingBy path_of files
+unfolding IsStrictlySortedBy
+rising_nothing files e = rw e tt

@@ -47,3 +47,6 @@ equal_texts a b e = eq_is (cmp a b) (is_eq-slice_cmp a b ∙ e)
 pub all_weaker : {X : Type 0} (P Q : X → Type 0) → ((x : X) → P x → Q x) → (xs : List X) → AllByRecursion P xs → AllByRecursion Q xs
 all_weaker P Q f [] a = tt
 all_weaker P Q f (x ∷ xs) a = (f x a.0, all_weaker P Q f xs a.1)
+
+pub equal_back : (a b : List ℕ) → cmp a b ≡ Equal → cmp b a ≡ Equal
+equal_back a b e = nat_list_cmp_total.antisymm b a ∙ ap ordering_reverse e

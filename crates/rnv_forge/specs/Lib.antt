@@ -1,3 +1,4 @@
+pub mod Applying
 pub mod Base
 pub mod Files
 pub mod Filled

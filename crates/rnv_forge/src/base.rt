@@ -130,7 +130,7 @@ fn merge_file<'a>(
 }
 
 // The files with the changes, and whether one of them changes a file.
-fn merged(
+pub(crate) fn merged(
     alloc: Global,
     files: List<FileAt>,
     changes: &[FileChange],
@@ -155,7 +155,7 @@ fn merged(
 }
 
 // More than 20,000 files, or more than 67,108,864 bytes.
-fn is_over(files: &[FileAt]) -> bool
+pub(crate) fn is_over(files: &[FileAt]) -> bool
     ensures { result ≡ is_over files.now }
 {
     if files.len() > 20_000 {

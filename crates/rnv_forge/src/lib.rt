@@ -2,10 +2,13 @@
 //! spelled as bytes.
 #![tactic(auto)]
 
+mod applying;
 mod base;
 mod branch;
+mod change;
 mod delivery;
 mod file;
+mod lookup;
 mod orderly;
 mod parts;
 mod reading;
@@ -16,6 +19,7 @@ mod spelled;
 mod spelling;
 mod write;
 
+pub use applying::{ApplyError, apply};
 pub use branch::{Branch, Key};
 pub use delivery::{Delivery, Event};
 pub use file::{EditedFile, FileAt, FileChange};
