@@ -1,12 +1,11 @@
 -- Where `put` puts.
-use Rattle.std.proofs.Common.{◌≡◌, ℕ, zero, suc, ◌+◌, ◌<◌, ◌≤◌, Bool, true, false, cond, List, [], ◌∷◌, ◌++◌, length, get_or, set, take, drop, refl, sym, ap, ◌∙◌, arith}
+use Rattle.std.proofs.Common.{◌≡◌, ℕ, suc, ◌+◌, ◌<◌, true, false, cond, List, [], ◌∷◌, length, get_or, set, refl, sym, ap, ◌∙◌, arith}
 use Rattle.std.specs.List.{insert, prefix_len}
 use Rattle.std.specs.Str.{bytes_eq}
-use Rattle.std.specs.declared.cmp.Ordering.{Ordering}
 use Rattle.std.specs.declared.cmp.Ordering.TheVariants.{Less, Equal, Greater}
 use Rattle.std.specs.Ordering.{is_lt}
 use Rattle.rnv_forge.specs.Named.{put, put_beside}
-use Rattle.rnv_forge.proofs.Texts.{cmp, less_back, equal_back, greater_back, same_texts, less_other, greater_other}
+use Rattle.rnv_forge.proofs.Texts.{cmp, less_back, equal_back, greater_back, same_texts, greater_other}
 
 -- behind those below it: in place of the one of its name, or before the others
 pub put_same : {X : Type 0} (key : X → List ℕ) (x : X) (xs : List X) (n : ℕ) → n ≡ prefix_len (λ y. is_lt (cmp (key y) (key x))) xs → n < length xs → bytes_eq (key (get_or xs n x)) (key x) ≡ true → put key x xs ≡ set xs n x

@@ -1,13 +1,10 @@
 -- Reading as the code does it: texts, and the parts of a list one after the other.
-use Rattle.std.proofs.Common.{◌≡◌, ℕ, zero, suc, ◌+◌, ◌-◌, ◌<◌, ◌≤◌, true, false, cond, List, [], ◌∷◌, ◌++◌, length, get_or, Option, Some, None, refl, sym, ap, ◌∙◌, append_assoc, arith, length-append}
-use Rattle.std.specs.List.{flat_map}
+use Rattle.std.proofs.Common.{◌≡◌, ℕ, suc, ◌+◌, ◌-◌, ◌<◌, ◌≤◌, true, false, cond, List, [], ◌∷◌, ◌++◌, Option, Some, None, refl, sym, ap, ◌∙◌, append_assoc, arith}
 use Rattle.std.specs.Str.{IsUtf8, is_utf8}
 use Rattle.std.proofs.lemmas.List.{append-nil}
-use Rattle.std.proofs.lemmas.List.Folds.{length-flat_map-take}
 use Rattle.std.proofs.lemmas.Str.{IsUtf8-from_is_utf8, is_utf8-from_IsUtf8}
 use Rattle.rnv_forge.specs.declared.spelled.ReadError.{ReadError}
 use Rattle.rnv_forge.specs.declared.spelled.ReadError.TheVariants.{Memory, NotSpelled}
-use Rattle.rnv_forge.specs.Spelling.{four_bytes, spelled_list}
 use Rattle.rnv_forge.specs.Reading.{Fails, Reading, ◌>>=◌, parts_at, bytes_at, text_at}
 
 pub text_of : (bytes t rest : List ℕ) → bytes_at bytes ≡ Some (t, rest) → IsUtf8 t → text_at bytes ≡ Some (t, rest)
@@ -51,19 +48,3 @@ is_done r front count i bytes total le so_far =
     let k : count - i ≡ 0 = omega arith in
     let one : with_front front (parts_at r (count - i) bytes) ≡ Some (front, bytes) = rw k (ap (λ ns. Some (ns, bytes)) (append-nil front)) in
     sym so_far ∙ one
-
--- a list has at most as many parts as bytes, where no part is empty
-pub parts_fit : {X : Type 0} (f : X → List ℕ) → ((x : X) → 0 < length (f x)) → (xs : List X) → length xs ≤ length (flat_map f xs)
-parts_fit f filled [] = omega arith
-parts_fit f filled (x ∷ xs) = omega (arith, filled x, parts_fit f filled xs, length-append (f x) (flat_map f xs))
-
-pub list_within : {X : Type 0} (f : X → List ℕ) (xs : List X) → length (spelled_list f xs) < 4294967296 → length (flat_map f xs) < 4294967296
-unfolding four_bytes
-list_within f xs h = omega arith
-
--- each part of a list whose spelling is short has a short one
-pub part_within : {X : Type 0} (f : X → List ℕ) (xs ys : List X) (i : ℕ) (x : X) → ys ≡ xs → x ≡ get_or ys i x → i < length ys → length (spelled_list f xs) < 4294967296 → length (f x) < 4294967296
-part_within f xs ys i x same is lt h =
-    let within = list_within f ys (rw same h) in
-    let here = length-flat_map-take f ys i x lt in
-    rw is (omega (arith, within, here))

@@ -1,7 +1,7 @@
 -- The bytes of a write are read exactly where they spell one.
-use Rattle.std.proofs.Common.{◌≡◌, ◌<◌, ◌≤◌, arith, inl, inr, ℕ, suc, Bool, true, false, cond, eqb, List, [], ◌∷◌, ◌++◌, length, Option, Some, None, refl, sym, ap, subst, ◌∙◌, append_assoc}
+use Rattle.std.proofs.Common.{◌≡◌, ◌<◌, arith, inl, inr, ℕ, suc, true, false, cond, eqb, List, [], ◌∷◌, ◌++◌, length, Option, Some, None, refl, sym, ap, subst, ◌∙◌, append_assoc}
 use Rattle.std.specs.Prelude.{All, IfSome}
-use Rattle.std.specs.List.{flat_map, AllByRecursion}
+use Rattle.std.specs.List.{AllByRecursion}
 use Rattle.std.specs.Str.{IsUtf8}
 use Rattle.std.proofs.lemmas.Bool.{cases_lt, eqb-true}
 use Rattle.std.proofs.lemmas.List.{append-nil, get_or_past, nil_from_length}
@@ -12,8 +12,8 @@ use Rattle.rnv_forge.specs.declared.write.Write.{Write}
 use Rattle.rnv_forge.specs.declared.write.Write.TheVariants.{SetBase, PutBranch, DropBranch, OpenRequest, EditRequest, Autoclose, Finish}
 use Rattle.rnv_forge.specs.Files.{PathChange}
 use Rattle.rnv_forge.specs.Spelling.{four_bytes, eight_bytes, spelled_bytes, spelled_list, spelled_option, spelled_key, spelled_file, spelled_change, spelled_branch, spelling}
-use Rattle.rnv_forge.specs.WellFormed.{HasKeyTexts, HasBranchTexts, HasRequestTexts, HasTexts}
-use Rattle.rnv_forge.specs.Reading.{Reading, ◌>>=◌, both_at, made_at, number_at, long_at, bytes_at, text_at, list_at, option_at, key_at, file_at, change_at, branch_at, base_at, put_at, drop_at, open_at, edit_at, close_at, finish_at, fields_at, write_at, whole_write}
+use Rattle.rnv_forge.specs.WellFormed.{HasKeyTexts, HasBranchTexts, HasTexts}
+use Rattle.rnv_forge.specs.Reading.{Reading, both_at, made_at, number_at, long_at, bytes_at, text_at, list_at, option_at, key_at, file_at, change_at, branch_at, base_at, put_at, drop_at, open_at, edit_at, close_at, finish_at, fields_at, write_at, whole_write}
 use Rattle.rnv_forge.proofs.Formats.{IsBytes, IsFormat, behind, bind_some, some_is, kept, both_format, made_format, number_format, long_format, bytes_format, text_format, list_format, option_format}
 
 abbrev Any : {X : Type 0} → X → Type 0

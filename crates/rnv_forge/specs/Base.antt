@@ -1,5 +1,5 @@
 -- The base of a repository: its files, and how changes leave them.
-use Rattle.std.specs.Prelude.{ℕ, ◌<◌, nat_lt, Bool, true, false, not, ◌||◌, if◌then◌else◌, List, [], ◌∷◌, length, sum_by, Option, None, Some}
+use Rattle.std.specs.Prelude.{ℕ, nat_lt, Bool, true, false, not, ◌||◌, if◌then◌else◌, List, [], ◌∷◌, length, sum_by, Option, None, Some}
 use Rattle.std.specs.List.{list_any}
 use Rattle.std.specs.Str.{bytes_eq}
 use Rattle.rnv_forge.specs.Files.{MarkedFile, PathChange}

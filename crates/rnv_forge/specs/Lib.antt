@@ -1,7 +1,6 @@
 pub mod Applying
 pub mod Base
 pub mod Files
-pub mod Filled
 pub mod Merging
 pub mod Named
 pub mod Reading

@@ -1,5 +1,5 @@
 -- Lists in the order of a text: files by path, branches and repositories by name.
-use Rattle.std.specs.Prelude.{ℕ, Bool, not, List, [], ◌∷◌, Option}
+use Rattle.std.specs.Prelude.{ℕ, not, List, [], ◌∷◌, Option}
 use Rattle.std.specs.List.{filter, find}
 use Rattle.std.specs.List.Sorted.{IsStrictlySortedBy}
 use Rattle.std.specs.declared.cmp.Ordering.{Ordering}

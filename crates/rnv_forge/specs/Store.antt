@@ -3,7 +3,6 @@ use Rattle.std.specs.Prelude.{◌≡◌, ℕ, ◌+◌, ◌≤◌, nat_eq, Bool, 
 use Rattle.std.specs.List.{AllByRecursion}
 use Rattle.rnv_base.specs.Names.{IsRepositoryName}
 use Rattle.rnv_forge.specs.declared.branch.Branch.{Branch}
-use Rattle.rnv_forge.specs.declared.delivery.Delivery.{Delivery}
 use Rattle.rnv_forge.specs.declared.refusal.Refusal.{Refusal}
 use Rattle.rnv_forge.specs.declared.refusal.Refusal.TheVariants.{UnknownRepo, NoBranch, HasLiveRequest, NumberTaken, NotLive, BaseFull, NoChange}
 use Rattle.rnv_forge.specs.declared.repo.Repo.{Repo}
@@ -12,7 +11,7 @@ use Rattle.rnv_forge.specs.declared.request.RequestState.TheVariants.{Live}
 use Rattle.rnv_forge.specs.declared.write.Write.{Write}
 use Rattle.rnv_forge.specs.declared.write.Write.TheVariants.{SetBase, PutBranch, DropBranch, OpenRequest, EditRequest, Autoclose, Finish}
 use Rattle.rnv_forge.specs.Base.{changed, is_changing, is_over}
-use Rattle.rnv_forge.specs.Files.{MarkedFile, PathChange}
+use Rattle.rnv_forge.specs.Files.{PathChange}
 use Rattle.rnv_forge.specs.Named.{IsRisingBy, at, put, without}
 use Rattle.rnv_forge.specs.Requests.{live_on, is_live_number, next_number, at_number, edited, autoclosed, AreApart, IsBased}
 use Rattle.rnv_forge.specs.WellFormed.{AreInOrder, repo_of}

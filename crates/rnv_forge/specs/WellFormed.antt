@@ -1,14 +1,12 @@
 -- Which values are writes: texts are UTF-8, names are repository names, and paths are paths and rise.
-use Rattle.std.specs.Prelude.{◌≡◌, ℕ, List, [], ◌∷◌, ◌++◌, Option, None, Some, All, IfSome}
+use Rattle.std.specs.Prelude.{ℕ, List, All, IfSome}
 use Rattle.std.specs.List.{AllByRecursion}
 use Rattle.std.specs.Str.{IsUtf8}
-use Rattle.rnv_base.specs.Files.{NamedFile}
 use Rattle.rnv_base.specs.Names.{IsPath, IsRepositoryName}
 use Rattle.rnv_forge.specs.declared.branch.Branch.{Branch}
 use Rattle.rnv_forge.specs.declared.branch.Key.{Key}
 use Rattle.rnv_forge.specs.declared.write.Write.{Write}
 use Rattle.rnv_forge.specs.declared.write.Write.TheVariants.{SetBase, PutBranch, DropBranch, OpenRequest, EditRequest, Autoclose, Finish}
-use Rattle.rnv_forge.specs.Files.{PathChange}
 use Rattle.rnv_forge.specs.Named.{IsRisingBy}
 
 -- the name of the repository that a write changes

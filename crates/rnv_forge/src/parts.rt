@@ -1,8 +1,7 @@
-ghost use Rattle.std.specs.Prelude.{◌≡◌, ◌<◌, ◌^◌, ◌++◌, length, OnOk};
+ghost use Rattle.std.specs.Prelude.{◌≡◌, ◌++◌, OnOk};
 ghost use Rattle.rnv_base.specs.Files.{bytes_inside};
 ghost use Rattle.rnv_forge.specs.Spelling.{spelled_bytes, spelled_option, spelled_key, spelled_file, spelled_change, spelled_branch};
 ghost use Rattle.rnv_forge.specs.Reading.{Gives, bytes_at, option_at, key_at, file_at, change_at, branch_at};
-ghost use Rattle.rnv_forge.specs.Filled.{key_filled, file_filled, change_filled, branch_filled};
 
 use crate::spelled::{ReadError, Spelled, put_bytes, put_number, read_bytes, read_number};
 use crate::{Branch, EditedFile, FileChange, Key};
@@ -14,8 +13,6 @@ impl Spelled for Key {
     ghost spelled = { spelled_key };
 
     ghost reading = { key_at };
-
-    ghost filled = { key_filled };
 
     fn put(&self, out: &mut Vec<u8>) -> Result<(), AllocError> {
         self.file.put(out)?;
@@ -42,8 +39,6 @@ impl Spelled for EditedFile {
 
     ghost reading = { file_at };
 
-    ghost filled = { file_filled };
-
     fn put(&self, out: &mut Vec<u8>) -> Result<(), AllocError> {
         self.path.put(out)?;
         put_bytes(self.bytes.as_slice(), out)
@@ -58,7 +53,6 @@ impl Spelled for EditedFile {
 }
 
 fn put_new_bytes(bytes: &Option<Bytes>, out: &mut Vec<u8>) -> Result<(), AllocError>
-    requires { length (spelled_option spelled_bytes (bytes_inside bytes.now)) < 2 ^ 32 }
     ensures { OnOk result (out.new.items ≡ out.old.items ++ spelled_option spelled_bytes (bytes_inside bytes.now)) }
 {
     match bytes {
@@ -90,8 +84,6 @@ impl Spelled for FileChange {
 
     ghost reading = { change_at };
 
-    ghost filled = { change_filled };
-
     fn put(&self, out: &mut Vec<u8>) -> Result<(), AllocError> {
         self.path.put(out)?;
         put_new_bytes(&self.bytes, out)
@@ -109,8 +101,6 @@ impl Spelled for Branch {
     ghost spelled = { spelled_branch };
 
     ghost reading = { branch_at };
-
-    ghost filled = { branch_filled };
 
     fn put(&self, out: &mut Vec<u8>) -> Result<(), AllocError> {
         self.name.put(out)?;

@@ -1,9 +1,7 @@
-ghost use Rattle.std.specs.Prelude.{◌≡◌, ◌<◌, ◌^◌, ◌++◌, ℕ, List, Option, length, OnOk};
-ghost use Rattle.std.specs.Int.{w32};
+ghost use Rattle.std.specs.Prelude.{◌≡◌, ◌++◌, ℕ, List, Option, OnOk};
 ghost use Rattle.rnv_forge.specs.Spelling.{four_bytes, eight_bytes, spelled_bytes, spelled_list, spelled_option};
-ghost use Rattle.rnv_forge.specs.Reading.{Gives, Fails, number_at, long_at, bytes_at, text_at, list_at, parts_at, option_at};
+ghost use Rattle.rnv_forge.specs.Reading.{Gives, number_at, long_at, bytes_at, text_at, list_at, parts_at, option_at};
 ghost use Rattle.rnv_forge.specs.declared.spelled.ReadError.TheVariants.{Memory};
-ghost use Rattle.rnv_forge.specs.Filled.{bytes_filled, list_filled, option_filled};
 
 use rnv_base::{Bytes, List, Text};
 use std::alloc::{AllocError, AllocFailed, Global};
@@ -40,15 +38,11 @@ pub(crate) trait Spelled: Drop {
 
     // Writes it at the end.
     fn put(&self, out: &mut Vec<u8>) -> Result<(), AllocError>
-        requires { length (spelled self.now) < 2 ^ 32 }
         ensures { OnOk result (out.new.items ≡ out.old.items ++ spelled self.now) };
 
     // Reads it, and gives the bytes behind it.
     fn read(alloc: Global, bytes: &[u8]) -> Result<(Self, &[u8]), ReadError>
         ensures { Gives (λ x. (x.0, x.1.now)) result (reading bytes.now) };
-
-    // No spelling is empty.
-    ghost filled: { (x : Self) → 0 < length (spelled x) };
 }
 
 #[tactic(auto, unfolding(crate::specs::Spelling::four_bytes))]
@@ -56,6 +50,16 @@ pub(crate) fn put_number(n: u32, out: &mut Vec<u8>) -> Result<(), AllocError>
     ensures { OnOk result (out.new.items ≡ out.old.items ++ four_bytes n) }
 {
     out.extend_from_slice(&n.to_be_bytes())
+}
+
+// Writes a length. One of 2^32 or more is more than there is memory for.
+fn put_length(length: usize, out: &mut Vec<u8>) -> Result<(), AllocError>
+    ensures { OnOk result (out.new.items ≡ out.old.items ++ four_bytes length) }
+{
+    match u32::try_from(length) {
+        Ok(length) => put_number(length, out),
+        Err(_) => Err(AllocError),
+    }
 }
 
 #[tactic(auto, unfolding(crate::specs::Reading::number_at))]
@@ -81,10 +85,9 @@ fn front(bytes: &[u8]) -> Result<(&[u8], &[u8]), ReadError>
 }
 
 pub(crate) fn put_bytes(bytes: &[u8], out: &mut Vec<u8>) -> Result<(), AllocError>
-    requires { length (spelled_bytes bytes.now) < 2 ^ 32 }
     ensures { OnOk result (out.new.items ≡ out.old.items ++ spelled_bytes bytes.now) }
 {
-    put_number(bytes.len() as u32, out)?;
+    put_length(bytes.len(), out)?;
     out.extend_from_slice(bytes)
 }
 
@@ -99,8 +102,6 @@ impl Spelled for Text {
     ghost spelled = { spelled_bytes };
 
     ghost reading = { text_at };
-
-    ghost filled = { bytes_filled };
 
     fn put(&self, out: &mut Vec<u8>) -> Result<(), AllocError> {
         put_bytes(self.as_str().as_bytes(), out)
@@ -121,10 +122,8 @@ impl<T: Spelled> Spelled for List<T> {
 
     ghost reading = { list_at T.reading };
 
-    ghost filled = { list_filled T.spelled };
-
     fn put(&self, out: &mut Vec<u8>) -> Result<(), AllocError> {
-        put_number(self.len() as u32, out)?;
+        put_length(self.len(), out)?;
         for item in self.as_slice() {
             item.put(out)?;
         }
@@ -159,8 +158,6 @@ impl<T: Spelled> Spelled for Option<T> {
     ghost spelled = { spelled_option T.spelled };
 
     ghost reading = { option_at T.reading };
-
-    ghost filled = { option_filled T.spelled };
 
     fn put(&self, out: &mut Vec<u8>) -> Result<(), AllocError> {
         match self {

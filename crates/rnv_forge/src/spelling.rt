@@ -1,4 +1,4 @@
-ghost use Rattle.std.specs.Prelude.{◌≡◌, ◌<◌, ◌^◌, ◌∷◌, ◌++◌, length, IfOk, OnOk};
+ghost use Rattle.std.specs.Prelude.{◌≡◌, ◌∷◌, ◌++◌, IfOk, OnOk};
 ghost use Rattle.rnv_forge.specs.Spelling.{spelling, spelled_bytes, spelled_key, spelled_list};
 
 use crate::spelled::{Spelled, put_long, put_number};
@@ -8,7 +8,6 @@ use std::alloc::{AllocError, Global};
 
 // The kind of a write, and the name of its repository.
 fn put_head(kind: u8, repo: &Text, out: &mut Vec<u8>) -> Result<(), AllocError>
-    requires { length (spelled_bytes repo.now) < 2 ^ 32 }
     ensures { OnOk result (out.new.items ≡ out.old.items ++ (kind ∷ spelled_bytes repo.now)) }
 {
     out.push(kind)?;
@@ -23,7 +22,6 @@ fn put_texts(
     labels: &List<Text>,
     out: &mut Vec<u8>,
 ) -> Result<(), AllocError>
-    requires { length (spelled_list spelled_key updates.now ++ spelled_bytes title.now ++ spelled_bytes body.now ++ spelled_list spelled_bytes labels.now) < 2 ^ 32 }
     ensures { OnOk result (out.new.items ≡ out.old.items ++ (spelled_list spelled_key updates.now ++ spelled_bytes title.now ++ spelled_bytes body.now ++ spelled_list spelled_bytes labels.now)) }
 {
     updates.put(out)?;
@@ -33,7 +31,6 @@ fn put_texts(
 }
 
 fn put_write(write: &Write, out: &mut Vec<u8>) -> Result<(), AllocError>
-    requires { length (spelling write.now) < 2 ^ 32 }
     ensures { OnOk result (out.new.items ≡ out.old.items ++ spelling write.now) }
 {
     match write {
@@ -88,9 +85,9 @@ fn put_write(write: &Write, out: &mut Vec<u8>) -> Result<(), AllocError>
     }
 }
 
-/// The one spelling of a write, if it is below 2^32 bytes. Only memory can fail.
+/// The one spelling of a write. Only memory can fail: a text or a list of 2^32 or more is more than
+/// there is memory for.
 pub fn spell(alloc: Global, write: &Write) -> Result<Bytes, AllocError>
-    requires { length (spelling write.now) < 2 ^ 32 }
     ensures { IfOk result (λ spelled. spelled.bytes ≡ spelling write.now) }
 {
     let mut out = Vec::new(alloc);

@@ -1,10 +1,7 @@
 use Rattle.std.proofs.Common.{◌≡◌, ◌||◌, ◌++◌, ◌∙◌, ap, sym, [], ◌∷◌, Some}
-use Rattle.std.specs.List.{prefix_len}
-use Rattle.std.specs.Ordering.{is_lt}
 use Rattle.std.specs.Str.{bytes_eq}
 use Rattle.rnv_forge.specs.Base.{differs}
 use Rattle.rnv_forge.specs.Merging.{left_at, sets_some}
-use Rattle.rnv_forge.proofs.Texts.{cmp}
 use Rattle.rnv_forge.proofs.Merges.{merged_same, merged_other, counted_at}
 use Rattle.rnv_forge.proofs.base.merge_file.Goals as goal
 

@@ -1,7 +1,7 @@
 use Rattle.std.proofs.Common.{◌≡◌, ◌++◌, ◌∙◌, ap, sym, arith, [], length}
 use Rattle.std.specs.Vec.Iter.{into_iter_items}
 use Rattle.std.proofs.lemmas.List.{nil_from_length}
-use Rattle.rnv_forge.specs.Base.{changed, is_changing}
+use Rattle.rnv_forge.specs.Base.{changed}
 use Rattle.rnv_forge.proofs.Merges.{last_sets, merged_files, merged_changing, rising_more}
 use Rattle.rnv_forge.proofs.base.merged.Goals as goal
 

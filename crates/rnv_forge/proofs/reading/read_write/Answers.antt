@@ -1,5 +1,4 @@
-use Rattle.std.proofs.Common.{◌≡◌, ◌∙◌, sym, ap, arith}
-use Rattle.rnv_forge.specs.Spelling.{spelling}
+use Rattle.std.proofs.Common.{◌≡◌, ◌∙◌, sym, arith}
 use Rattle.rnv_forge.specs.WellFormed.{IsOrderly}
 use Rattle.rnv_forge.proofs.Formats.{some_is}
 use Rattle.rnv_forge.proofs.WriteFormats.{whole_takes, whole_again}

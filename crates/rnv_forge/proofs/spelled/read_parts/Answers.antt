@@ -1,4 +1,3 @@
-use Rattle.std.proofs.Common.{◌≡◌, ◌++◌, ◌∷◌, []}
 use Rattle.rnv_forge.proofs.Readings.{goes_on}
 use Rattle.rnv_forge.specs.Reading.{parts_at}
 use Rattle.rnv_forge.proofs.spelled.read_parts.Goals as goal
