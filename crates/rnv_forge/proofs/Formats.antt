@@ -166,8 +166,8 @@ bytes_takes bytes rest x fits e =
     let t = number_takes bytes more n fits a.1 in
     let parts : more ≡ take n more ++ drop n more = sym (take-append-drop n more) in
     let whole : bytes ≡ spelled_bytes (take n more) ++ drop n more =
-        t.1 ∙ ap (λ (l : List ℕ). four_bytes n ++ l) parts ∙ sym (append_assoc (four_bytes n) (take n more) (drop n more))
-        ∙ ap (λ (k : ℕ). (four_bytes k ++ take n more) ++ drop n more) (sym len) in
+    t.1 ∙ ap (λ (l : List ℕ). four_bytes n ++ l) parts ∙ sym (append_assoc (four_bytes n) (take n more) (drop n more))
+    ∙ ap (λ (k : ℕ). (four_bytes k ++ take n more) ++ drop n more) (sym len) in
     let made : List ℕ × List ℕ = (take n more, drop n more) in
     subst (λ (y : List ℕ × List ℕ). Unit {0} × (bytes ≡ spelled_bytes y.0 ++ y.1)) (some_is made (x, rest) g.1) (tt, whole)
 
@@ -267,6 +267,7 @@ option_format {A = A} F s r f = record { takes = takes; again = again }
               let k = kept (eqb flag 1) (made_at Some r more) (o, rest) h in
               some_takes flag more rest o fits (eqb-true _ _ k.0) k.1
         ] refl e
+
     again : (bytes rest : List ℕ) (o : Option A) → IsBytes bytes → IfSome o F → bytes ≡ spelled_option s o ++ rest → option_at r bytes ≡ Some (o, rest)
     again bytes rest None fits h e = rw e refl
     again bytes rest (Some x) fits h e =

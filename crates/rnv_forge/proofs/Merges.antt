@@ -38,7 +38,7 @@ bytes_behind revision path None x files below =
 bytes_behind revision path (Some bytes) x files below =
     let new : Option MarkedFile → MarkedFile = λ old. record { path = path; bytes = bytes; changed = mark revision bytes old } in
     let there : put path_of (new (at path_of path (x ∷ files))) (x ∷ files) ≡ put path_of (new (at path_of path files)) (x ∷ files) =
-        ap (λ old. put path_of (new old) (x ∷ files)) (at_behind path x files below) in
+    ap (λ old. put path_of (new old) (x ∷ files)) (at_behind path x files below) in
     there ∙ ap (λ o. put_beside o (new (at path_of path files)) x files (put path_of (new (at path_of path files)) files)) (less_back x.path path below)
 
 pub changed_behind : (revision : ℕ) (x : MarkedFile) (cs : List PathChange) (files : List MarkedFile) → AllByRecursion (λ c. cmp x.path c.path ≡ Less) cs
@@ -62,7 +62,7 @@ bytes_before revision path (Some bytes) [] a = refl
 bytes_before revision path (Some bytes) (f ∷ files) a =
     let new : Option MarkedFile → MarkedFile = λ old. record { path = path; bytes = bytes; changed = mark revision bytes old } in
     let there : put path_of (new (at path_of path (f ∷ files))) (f ∷ files) ≡ put path_of (new None) (f ∷ files) =
-        ap (λ old. put path_of (new old) (f ∷ files)) (at_none path_of path (f ∷ files) a) in
+    ap (λ old. put path_of (new old) (f ∷ files)) (at_none path_of path (f ∷ files) a) in
     there ∙ ap (λ o. put_beside o (new None) f files (put path_of (new None) files)) a.0
 
 set_behind : (revision : ℕ) (path : List ℕ) (bytes : Option (List ℕ)) (cs : List PathChange) (files : List MarkedFile) → AllByRecursion (λ c. cmp path c.path ≡ Less) cs
@@ -109,7 +109,7 @@ bytes_same revision None f files a =
 bytes_same revision (Some bytes) f files a =
     let new : Option MarkedFile → MarkedFile = λ old. record { path = f.path; bytes = bytes; changed = mark revision bytes old } in
     let there : put path_of (new (at path_of f.path (f ∷ files))) (f ∷ files) ≡ put path_of (new (Some f)) (f ∷ files) =
-        ap (λ t. put path_of (new (cond t (Some f) (at path_of f.path files))) (f ∷ files)) (bytes_refl f.path) in
+    ap (λ t. put path_of (new (cond t (Some f) (at path_of f.path files))) (f ∷ files)) (bytes_refl f.path) in
     there ∙ ap (λ o. put_beside o (new (Some f)) f files (put path_of (new (Some f)) files)) (equal_texts f.path f.path (bytes_refl f.path))
 
 left_behind : (revision : ℕ) (f : MarkedFile) (bytes : Option (List ℕ)) (cs : List PathChange) (files : List MarkedFile) → AllByRecursion (λ c. cmp f.path c.path ≡ Less) cs
@@ -154,7 +154,7 @@ merges_same revision front behind c f old below same = record {
       let before = before_file front f more below rm.0 in
       let above = subst (λ p. AllByRecursion (λ (d : PathChange). cmp p d.path ≡ Less) behind) same (rising_rest front (c ∷ behind) rl).0 in
       let here : changed revision (c ∷ behind) (f ∷ more) ≡ left_at revision f c.bytes ++ changed revision behind more =
-          ap (λ p. changed revision behind (with_bytes revision p c.bytes (f ∷ more))) same ∙ ap (changed revision behind) (bytes_same revision c.bytes f more rm.0) ∙ left_behind revision f c.bytes behind more above in
+      ap (λ p. changed revision behind (with_bytes revision p c.bytes (f ∷ more))) same ∙ ap (changed revision behind) (bytes_same revision c.bytes f more rm.0) ∙ left_behind revision f c.bytes behind more above in
       let all = front_sets revision front (c ∷ behind) (f ∷ more) rl before ∙ ap (λ l. flat_map (set_by revision) front ++ l) here in
       ap (λ l. old ++ l) all ∙ sym (append_assoc old (flat_map (set_by revision) front) (left_at revision f c.bytes ++ changed revision behind more))
       ∙ sym (append_assoc (old ++ flat_map (set_by revision) front) (left_at revision f c.bytes) (changed revision behind more));
@@ -207,11 +207,11 @@ pub above_all : (path : List ℕ) (c : PathChange) (rest : List PathChange) → 
 unfolding IsStrictlySortedBy
 above_all path c rest low other rising =
     let greater : cmp c.path path ≡ Greater =
-        elim (cmp c.path path) as (λ o. cmp c.path path ≡ o → o ≡ Greater) [
-          | Less ↦ λ is. absurd (cc (low, ap is_lt is))
-          | Equal ↦ λ is. absurd (cc (other, same_texts c.path path is))
-          | Greater ↦ λ is. refl
-        ] refl in
+    elim (cmp c.path path) as (λ o. cmp c.path path ≡ o → o ≡ Greater) [
+      | Less ↦ λ is. absurd (cc (low, ap is_lt is))
+      | Equal ↦ λ is. absurd (cc (other, same_texts c.path path is))
+      | Greater ↦ λ is. refl
+    ] refl in
     let first = greater_back c.path path greater in
     (first, all_weaker _ _ (λ d h. nat_list_cmp_total.trans path c.path d.path first h) rest rising.0)
 
@@ -223,9 +223,9 @@ pub merged_same : (revision : ℕ) (changes : List PathChange) (n : ℕ) (front 
     → MergesFile revision changes f old new behind any
 merged_same revision changes n front rest behind c f old new any count front-is rest-is head same new-is any-is =
     let below : AllByRecursion (λ (d : PathChange). cmp d.path f.path ≡ Less) front =
-        subst (λ l. AllByRecursion (λ (d : PathChange). cmp d.path f.path ≡ Less) l) (ap (λ k. take k changes) (sym count) ∙ sym front-is) (below_front f.path changes) in
+    subst (λ l. AllByRecursion (λ (d : PathChange). cmp d.path f.path ≡ Less) l) (ap (λ k. take k changes) (sym count) ∙ sym front-is) (below_front f.path changes) in
     let whole : front ++ c ∷ behind ≡ changes =
-        ap (λ l. front ++ l) (sym head ∙ rest-is) ∙ ap (λ l. l ++ drop n changes) front-is ∙ take-append-drop n changes in
+    ap (λ l. front ++ l) (sym head ∙ rest-is) ∙ ap (λ l. l ++ drop n changes) front-is ∙ take-append-drop n changes in
     let m = merges_same revision front behind c f old below same in
     let at_new : MergesFile revision (front ++ c ∷ behind) f old new behind any = rw (new-is, any-is) m in
     subst (λ l. MergesFile revision l f old new behind any) whole at_new
@@ -236,10 +236,10 @@ pub merged_other : (revision : ℕ) (changes : List PathChange) (n : ℕ) (front
     → MergesFile revision changes f old new rest any
 merged_other revision changes n front rest f old new any count front-is rest-is other new-is any-is =
     let below : AllByRecursion (λ (d : PathChange). cmp d.path f.path ≡ Less) front =
-        subst (λ l. AllByRecursion (λ (d : PathChange). cmp d.path f.path ≡ Less) l) (ap (λ k. take k changes) (sym count) ∙ sym front-is) (below_front f.path changes) in
+    subst (λ l. AllByRecursion (λ (d : PathChange). cmp d.path f.path ≡ Less) l) (ap (λ k. take k changes) (sym count) ∙ sym front-is) (below_front f.path changes) in
     let whole : front ++ rest ≡ changes = ap (λ l. front ++ l) rest-is ∙ ap (λ l. l ++ drop n changes) front-is ∙ take-append-drop n changes in
     let low : (c : PathChange) (more : List PathChange) → rest ≡ c ∷ more → is_lt (cmp c.path f.path) ≡ false =
-        λ c more e. not_below f.path changes more c (ap (λ k. drop k changes) (sym count) ∙ sym rest-is ∙ e) in
+    λ c more e. not_below f.path changes more c (ap (λ k. drop k changes) (sym count) ∙ sym rest-is ∙ e) in
     let m = merges_other revision front rest f old below (all_above f.path rest low other) in
     let at_new : MergesFile revision (front ++ rest) f old new rest any = rw (new-is, any-is) m in
     subst (λ l. MergesFile revision l f old new rest any) whole at_new

@@ -80,7 +80,7 @@ open_parts : IsFormat (λ (p : OpenParts). IsUtf8 p.0 × (Any p.1.0 × (IsUtf8 p
     (both_at text_at (both_at number_at (both_at text_at (both_at (list_at key_at) (both_at text_at (both_at text_at (both_at (list_at text_at) long_at)))))))
 open_parts =
     both_format _ _ _ _ _ _ text_format (both_format _ _ _ _ _ _ number_format (both_format _ _ _ _ _ _ text_format (both_format _ _ _ _ _ _ (list_format _ _ _ key_format)
-      (both_format _ _ _ _ _ _ text_format (both_format _ _ _ _ _ _ text_format (both_format _ _ _ _ _ _ (list_format _ _ _ text_format) long_format))))))
+    (both_format _ _ _ _ _ _ text_format (both_format _ _ _ _ _ _ text_format (both_format _ _ _ _ _ _ (list_format _ _ _ text_format) long_format))))))
 
 abbrev EditParts : Type 0
 EditParts = List ℕ × (ℕ × (List Key × (List ℕ × (List ℕ × List (List ℕ)))))
@@ -90,7 +90,7 @@ edit_parts : IsFormat (λ (p : EditParts). IsUtf8 p.0 × (Any p.1.0 × (AllByRec
     (both_at text_at (both_at number_at (both_at (list_at key_at) (both_at text_at (both_at text_at (list_at text_at))))))
 edit_parts =
     both_format _ _ _ _ _ _ text_format (both_format _ _ _ _ _ _ number_format (both_format _ _ _ _ _ _ (list_format _ _ _ key_format)
-      (both_format _ _ _ _ _ _ text_format (both_format _ _ _ _ _ _ text_format (list_format _ _ _ text_format)))))
+    (both_format _ _ _ _ _ _ text_format (both_format _ _ _ _ _ _ text_format (list_format _ _ _ text_format)))))
 
 close_parts : IsFormat (λ (p : List ℕ × ℕ). IsUtf8 p.0 × Any p.1) (λ p. spelled_bytes p.0 ++ four_bytes p.1) (both_at text_at number_at)
 close_parts = both_format _ _ _ _ _ _ text_format number_format
@@ -117,7 +117,7 @@ kind_takes k F s r make f same texts kind more rest w fits is e =
     let h = f.takes more a.0.1 a.0.0 fits a.1 in
     let made : Write × List ℕ = (make a.0.0, a.0.1) in
     let whole : kind ∷ more ≡ spelling (make a.0.0) ++ a.0.1 =
-        ap (λ (b : ℕ). b ∷ more) is ∙ ap (λ (l : List ℕ). k ∷ l) h.1 ∙ ap (λ (l : List ℕ). l ++ a.0.1) (sym (same a.0.0)) in
+    ap (λ (b : ℕ). b ∷ more) is ∙ ap (λ (l : List ℕ). k ∷ l) h.1 ∙ ap (λ (l : List ℕ). l ++ a.0.1) (sym (same a.0.0)) in
     let result : IsRead (kind ∷ more) (make a.0.0) a.0.1 = record { texts = texts a.0.0 h.0; spelled = whole } in
     subst (λ (y : Write × List ℕ). IsRead (kind ∷ more) y.0 y.1) (some_is made (w, rest) a.2) result
 

@@ -123,12 +123,12 @@ finish_at = made_at (λ p. Finish p.0 p.1) (both_at text_at (option_at text_at))
 unfoldable pub fields_at : ℕ → Reading Write
 fields_at kind bytes =
     if nat_eq kind 1 then base_at bytes else (
-      if nat_eq kind 2 then put_at bytes else (
-        if nat_eq kind 3 then drop_at bytes else (
-          if nat_eq kind 4 then open_at bytes else (
-            if nat_eq kind 5 then edit_at bytes else (
-              if nat_eq kind 6 then close_at bytes else (
-                if nat_eq kind 7 then finish_at bytes else None))))))
+    if nat_eq kind 2 then put_at bytes else (
+    if nat_eq kind 3 then drop_at bytes else (
+    if nat_eq kind 4 then open_at bytes else (
+    if nat_eq kind 5 then edit_at bytes else (
+    if nat_eq kind 6 then close_at bytes else (
+    if nat_eq kind 7 then finish_at bytes else None))))))
 
 unfoldable pub write_at : Reading Write
 write_at [] = None

@@ -30,16 +30,18 @@ applied_in (SetBase name changes) repo = with_base (repo.revision + 1) changes r
 applied_in (PutBranch name branch) repo = record repo { branches = put name_of branch repo.branches }
 applied_in (DropBranch name branch) repo = record repo { branches = without name_of branch repo.branches }
 applied_in (OpenRequest name number branch updates title body labels made_at) repo =
-    record repo { requests = repo.requests ++ record {
-      number = number;
-      branch = branch;
-      updates = updates;
-      title = title;
-      body = body;
-      labels = labels;
-      made_at = made_at;
-      state = Live;
-    } ∷ [] }
+    record repo {
+      requests = repo.requests ++ record {
+        number = number;
+        branch = branch;
+        updates = updates;
+        title = title;
+        body = body;
+        labels = labels;
+        made_at = made_at;
+        state = Live;
+      } ∷ [];
+    }
 applied_in (EditRequest name number updates title body labels) repo =
     record repo { requests = at_number number (edited updates title body labels) repo.requests }
 applied_in (Autoclose name number) repo = record repo { requests = at_number number autoclosed repo.requests }

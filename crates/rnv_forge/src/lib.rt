@@ -17,6 +17,8 @@ mod repo;
 mod request;
 mod spelled;
 mod spelling;
+#[cfg(test)]
+mod tests;
 mod write;
 
 pub use applying::{ApplyError, apply};

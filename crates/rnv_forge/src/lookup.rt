@@ -34,9 +34,7 @@ fn is_live_on(request: &Request, branch: &Text) -> bool
 pub(crate) fn is_live_number(requests: &[Request], number: u32) -> bool
     ensures { result ≡ is_live_number number requests.now }
 {
-    requests
-        .iter()
-        .any(|request| request.number == number && is_live(request.state))
+    requests.iter().any(|request| request.number == number && is_live(request.state))
 }
 
 // Why a branch may not be dropped or have a request opened, where a live request is on it.

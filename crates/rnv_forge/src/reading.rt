@@ -156,5 +156,4 @@ pub fn read_write(alloc: Global, bytes: &[u8]) -> Result<Option<Write>, AllocErr
 /// No two writes have one spelling.
 pub fn one_spelling()
     ensures { (v w : Write) → HasTexts v → HasTexts w → All (λ b. b < 256) (spelling v) → spelling v ≡ spelling w → v ≡ w }
-{
-}
+{}

@@ -5,11 +5,20 @@ use rnv_base::{List, Text};
 #[derive(Debug, Drop)]
 pub enum Write {
     /// Sets or removes files of the base. The repository begins with it.
-    SetBase { repo: Text, changes: List<FileChange> },
+    SetBase {
+        repo: Text,
+        changes: List<FileChange>,
+    },
     /// Sets the branch of this name.
-    PutBranch { repo: Text, branch: Branch },
+    PutBranch {
+        repo: Text,
+        branch: Branch,
+    },
     /// Drops the branch of this name.
-    DropBranch { repo: Text, name: Text },
+    DropBranch {
+        repo: Text,
+        name: Text,
+    },
     /// Opens a request on a branch.
     OpenRequest {
         repo: Text,
@@ -31,7 +40,13 @@ pub enum Write {
         labels: List<Text>,
     },
     /// Closes a live request whose branch is no longer wanted.
-    Autoclose { repo: Text, number: u32 },
+    Autoclose {
+        repo: Text,
+        number: u32,
+    },
     /// Sets the page, at the end of a run.
-    Finish { repo: Text, page: Option<Text> },
+    Finish {
+        repo: Text,
+        page: Option<Text>,
+    },
 }
