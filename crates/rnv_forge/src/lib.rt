@@ -15,6 +15,7 @@ mod reading;
 mod refusal;
 mod repo;
 mod request;
+mod soundness;
 mod spelled;
 mod spelling;
 #[cfg(test)]
@@ -30,5 +31,6 @@ pub use reading::{one_spelling, read_write};
 pub use refusal::Refusal;
 pub use repo::Repo;
 pub use request::{Request, RequestState};
+pub use soundness::stays_sound;
 pub use spelling::spell;
 pub use write::Write;
