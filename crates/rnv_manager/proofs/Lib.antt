@@ -1,3 +1,8 @@
 pub mod Cuts
+mod Differences
+mod EditLaw
+mod Edited
 pub mod Marks
+mod Replacing
 mod Spans
+mod Unique

@@ -1,3 +1,5 @@
+pub mod Edits
 pub mod Finds
 pub mod Marks
 pub mod Splice
+pub mod Steps

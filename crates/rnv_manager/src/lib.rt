@@ -1,10 +1,18 @@
 //! What it is to find dependencies in the files of one kind, and to write others in their place.
 #![tactic(auto)]
 
+mod difference;
+mod editing;
+mod edits;
+mod expected;
 mod found;
 mod manager;
+mod reading_back;
+mod replaced;
 mod splicing;
 
+pub use editing::edit;
+pub use edits::{Edit, EditError};
 pub use found::{ExtractError, Found};
 pub use manager::Manager;
 pub use splicing::{Span, splice};
