@@ -15,10 +15,10 @@ use Rattle.rnv_manager.proofs.Unique.{slot_of, first_or, rest_of}
 
 -- ---- the value of one find
 
-other : (e : Edit) (es : List Edit) (k : ℕ) (s : List ℕ) → nat_eq e.index k ≡ false → value_after (e ∷ es) k s ≡ value_after es k s
+pub other : (e : Edit) (es : List Edit) (k : ℕ) (s : List ℕ) → nat_eq e.index k ≡ false → value_after (e ∷ es) k s ≡ value_after es k s
 other e es k s n = rw n refl
 
-chosen : (e : Edit) (es : List Edit) (k : ℕ) (s : List ℕ) → nat_eq e.index k ≡ true → value_after (e ∷ es) k s ≡ e.new_value
+pub chosen : (e : Edit) (es : List Edit) (k : ℕ) (s : List ℕ) → nat_eq e.index k ≡ true → value_after (e ∷ es) k s ≡ e.new_value
 chosen e es k s n = rw n refl
 
 -- an edit of an earlier find says nothing of those behind it

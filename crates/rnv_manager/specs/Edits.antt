@@ -1,5 +1,5 @@
 -- Edits of a file, and what it is that an edited file is read back.
-use Rattle.std.specs.Prelude.{◌≡◌, ◌≢◌, ◌⊎◌, ℕ, suc, ◌≤◌, ◌<◌, ⊤, List, [], ◌∷◌, length, take, slice_get, ◌==◌, if◌then◌else◌}
+use Rattle.std.specs.Prelude.{◌≡◌, ◌≢◌, ◌⊎◌, ℕ, suc, ◌≤◌, ◌<◌, ⊤, List, [], ◌∷◌, length, take, slice_get, Bool, IsTrue, ◌==◌, if◌then◌else◌}
 use Rattle.std.specs.Option.{option_map_or}
 use Rattle.rnv_manager.specs.declared.edits.Edit.{Edit}
 use Rattle.rnv_manager.specs.declared.edits.EditError.{EditError}
@@ -11,6 +11,11 @@ use Rattle.rnv_manager.specs.Marks.{Mark, byte, find, text_of, finds_from}
 abbrev pub AreIndexes : ℕ → List Edit → ℕ → Type 0
 AreIndexes from [] number = ⊤
 AreIndexes from (e ∷ edits) number = (from ≤ e.index) × (e.index < number) × AreIndexes (suc e.index) edits number
+
+-- each new value passes the test
+abbrev pub AllFit : (List ℕ → Bool) → List Edit → Type 0
+AllFit fits [] = ⊤
+AllFit fits (e ∷ edits) = IsTrue (fits e.new_value) × AllFit fits edits
 
 -- the value of the find with that index
 abbrev pub value_after : List Edit → ℕ → List ℕ → List ℕ

@@ -1,5 +1,6 @@
 mod Again
 mod Cuts
+mod Edits
 mod Marks
 mod Rests
 mod Spelled

@@ -1,3 +1,4 @@
+pub mod Fits
 pub mod Grammar
 pub mod Read
 pub mod Rest

@@ -1,6 +1,7 @@
 //! The dependencies in a `package.json`, read as one JSON object (RFC 8259).
 #![tactic(auto)]
 
+mod fitting;
 mod manager;
 mod role;
 #[cfg(test)]

@@ -1,13 +1,15 @@
 ghost use Rattle.std.specs.Prelude.{◌≡◌};
 ghost use Rattle.rnv_manager.specs.Finds.{views, GivesFinds};
+ghost use Rattle.rnv_package_json.specs.Fits.{fits};
 ghost use Rattle.rnv_package_json.specs.Grammar.{IsRead};
 ghost use Rattle.rnv_package_json.specs.Read.{file as read_file};
 
+use crate::fitting::fits;
 use crate::role::Role;
 use crate::text::{after_gap, expect};
 use crate::value::{Kind, group};
 use rnv_base::List;
-use rnv_manager::{ExtractError, Found, Manager};
+use rnv_manager::{ExtractError, Found, KeepsEdits, Manager};
 use std::alloc::Global;
 
 // So deep the values in the top object may nest; with that object it is 127.
@@ -46,6 +48,8 @@ fn read<'a>(alloc: Global, file: &'a str) -> Result<List<Found<'a>>, ExtractErro
 impl Manager for NpmManager {
     ghost reads = { λ m file ms. IsRead file ms };
 
+    ghost is_fit = { λ m value. fits value };
+
     fn extract<'a>(
         &'a self,
         alloc: Global,
@@ -54,5 +58,13 @@ impl Manager for NpmManager {
         read(alloc, file)
     }
 
+    fn fits(&self, value: &str) -> bool {
+        fits(value)
+    }
+
     ghost whole = { λ m file ms h. h.whole };
+}
+
+impl KeepsEdits for NpmManager {
+    fn keeps_edits(&self) {}
 }
