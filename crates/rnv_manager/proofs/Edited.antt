@@ -101,7 +101,7 @@ edited-bytes : (es : List Edit) (k : ℕ) (xs : List ℕ) (ms : List Mark) → e
 edited-bytes es k [] ms = refl
 edited-bytes es k (x ∷ xs) ms = ap (λ (r : List Mark). m.byte x ∷ r) (edited-bytes es k xs ms)
 
-from-bytes : (at : ℕ) (xs : List ℕ) (ms : List Mark) → m.finds_from at (m.bytes xs ms) ≡ m.finds_from (at + length xs) ms
+pub from-bytes : (at : ℕ) (xs : List ℕ) (ms : List Mark) → m.finds_from at (m.bytes xs ms) ≡ m.finds_from (at + length xs) ms
 from-bytes at [] ms = ap (λ (k : ℕ). m.finds_from k ms) (omega arith)
 from-bytes at (x ∷ xs) ms = from-bytes (suc at) xs ms ∙ ap (λ (k : ℕ). m.finds_from k ms) (omega arith)
 

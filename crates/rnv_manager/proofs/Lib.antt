@@ -6,4 +6,5 @@ pub mod Kept
 pub mod Marks
 mod Replacing
 mod Spans
+mod Tools
 mod Unique

@@ -3,3 +3,4 @@ pub mod Finds
 pub mod Marks
 pub mod Splice
 pub mod Steps
+pub mod Tool

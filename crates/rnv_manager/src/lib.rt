@@ -1,6 +1,7 @@
 //! What it is to find dependencies in the files of one kind, and to write others in their place.
 #![tactic(auto)]
 
+mod conditions;
 mod difference;
 mod editing;
 mod edits;
@@ -11,7 +12,10 @@ mod manager;
 mod reading_back;
 mod replaced;
 mod splicing;
+#[cfg(test)]
+mod tests;
 
+pub use conditions::{all_fit, are_indexes};
 pub use editing::edit;
 pub use edits::{Edit, EditError};
 pub use found::{ExtractError, Found};

@@ -1,8 +1,8 @@
 use crate::NpmManager;
-use rnv_base::SourceKind;
-use rnv_manager::{ExtractError, Manager};
+use rnv_base::{Bytes, List, SourceKind, Text};
+use rnv_manager::{Edit, EditError, ExtractError, Manager, all_fit, are_indexes, edit, edit_kept};
 use std::alloc::{AllocError, Global};
-use std::convert::AsSlice;
+use std::convert::{AsSlice, AsStr};
 use std::test::Fail;
 
 #[test]
@@ -116,5 +116,108 @@ fn nesting(rt: HostRuntime) -> Result<(), Fail> {
             Err(ExtractError::BadSyntax)
         )
     );
+    Ok(())
+}
+
+#[test]
+fn texts_that_may_stand_for_a_value(rt: HostRuntime) {
+    let rows = [
+        ("", true),
+        ("^1.0.0 || >=2 <3", true),
+        ("~", true),
+        ("1\"2", false),
+        ("'1'", false),
+        ("1\\2", false),
+        ("1\n", false),
+        ("\u{7f}", false),
+        ("é", false),
+    ];
+    for (value, fits) in rows {
+        assert_eq!(rt; NpmManager.fits(value), fits, "{value}");
+    }
+}
+
+fn edits_of(alloc: Global, rows: &[(usize, &str)]) -> Result<List<Edit>, AllocError> {
+    let mut edits = List::empty(alloc);
+    for (index, value) in rows {
+        let new_value = Text::copied(alloc, value)?;
+        edits.push(Edit {
+            index: *index,
+            new_value,
+        })?;
+    }
+    Ok(edits)
+}
+
+// The edited file, where the file is read and has finds of these indexes. Values that fit are kept.
+fn edited<'a>(
+    alloc: Global,
+    file: &'a str,
+    edits: &'a List<Edit>,
+) -> Option<Result<Bytes, EditError>> {
+    match NpmManager.extract(alloc, file) {
+        Ok(found) if are_indexes(edits.as_slice(), found.len()) => {
+            if all_fit(&NpmManager, edits.as_slice()) {
+                Some(edit_kept(alloc, &NpmManager, file, edits))
+            } else {
+                Some(edit(alloc, &NpmManager, file, edits))
+            }
+        }
+        _ => None,
+    }
+}
+
+#[test]
+fn only_the_chosen_values_change(rt: HostRuntime) -> Result<(), Fail> {
+    // The same text in several places.
+    let file =
+        "{\"version\":\"1.0.0\",\"dependencies\":{\"a\":\"1.0.0\",\"b\":\"1.0.0\"},\"x\":\"1.0.0\"}";
+    let edits = edits_of(rt.alloc(), &[(1, "1.10.0")])?;
+    let new = edited(rt.alloc(), file, &edits)
+        .ok_or("finds")?
+        .ok()
+        .ok_or("edited")?;
+    assert_eq!(rt;
+        new.as_slice(),
+        "{\"version\":\"1.0.0\",\"dependencies\":{\"a\":\"1.0.0\",\"b\":\"1.10.0\"},\"x\":\"1.0.0\"}".as_bytes()
+    );
+    // Each find, one of them empty and one edited to be, among text of several bytes a character.
+    let file =
+        "{\"é\":\"ü\",\"dependencies\":{\"a\":\"\",\"名\":\"2\"},\r\n\"devDependencies\":{\"ß\":\"3\"},\"z\":\"→\"}";
+    let edits = edits_of(rt.alloc(), &[(0, "1.0.0"), (1, "^20.0.0"), (2, "")])?;
+    let new = edited(rt.alloc(), file, &edits)
+        .ok_or("finds")?
+        .ok()
+        .ok_or("edited")?;
+    assert_eq!(rt;
+        new.as_slice(),
+        "{\"é\":\"ü\",\"dependencies\":{\"a\":\"1.0.0\",\"名\":\"^20.0.0\"},\r\n\"devDependencies\":{\"ß\":\"\"},\"z\":\"→\"}".as_bytes()
+    );
+    Ok(())
+}
+
+#[test]
+fn texts_that_are_not_read_back(rt: HostRuntime) -> Result<(), Fail> {
+    // The new value ends early; outside the grammar nothing is found.
+    let rows = [("2\",\"b\":\"3", "2"), ("2\"", "")];
+    for (value, other) in rows {
+        let edits = edits_of(rt.alloc(), &[(0, value)])?;
+        match edited(rt.alloc(), "{\"dependencies\":{\"a\":\"1\"}}", &edits) {
+            Some(
+                Err(
+                    EditError::NotReadBack {
+                        start,
+                        wanted,
+                        found,
+                    },
+                ),
+            ) => {
+                assert_eq!(rt; start, 22);
+                assert_eq!(rt; wanted.as_str(), value);
+                assert_eq!(rt; found.as_str(), other);
+            }
+            _ => return Err(Fail::from("another answer")),
+        }
+    }
     Ok(())
 }
