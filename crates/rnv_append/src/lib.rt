@@ -1,7 +1,7 @@
 //! Appends what a journal has prepared, as a caller that knows the journal by lists of byte strings alone.
 #![tactic(auto)]
 
-ghost use Rattle.std.specs.Prelude.{◌≡◌, ◌<◌, ◌≤◌, ◌+◌, ℕ, true, false, [], ◌++◌, length, take, drop, OnOk, OnErr};
+ghost use Rattle.std.specs.Prelude.{◌≡◌, ◌<◌, ◌≤◌, ◌+◌, ℕ, true, false, [], ◌++◌, length, take, drop, IfErr, OnOk, OnErr};
 ghost use Rattle.rnv_base.specs.Causes.{FaultsBy};
 ghost use Rattle.rnv_disk.specs.Stops.{LeftNow, LeavesOnly};
 ghost use Rattle.rnv_journal.specs.Readings.{ReadsOnly, IsAtRest};
@@ -27,6 +27,7 @@ pub fn append_all<D: Disk>(journal: &mut Journal, disk: &mut D) -> Result<(), Ap
     ensures at_rest { OnOk result (IsAtRest journal.old.limit (D.past disk.new) journal.new.entries) }
     ensures ok { OnOk result (journal.new ≡ record journal.old { entries = journal.old.entries ++ journal.old.prepared; prepared = [] }) }
     ensures err { OnErr result (IsStopped journal.old journal.new) }
+    ensures fault { IfErr result (λ error. error ≡ AppendError.DiskFault) }
     ensures cause { FaultsBy (D.faults disk.old) (D.faults disk.new) result AppendError.DiskFault }
 {
     for _ in 0..journal.prepared() {
