@@ -1,6 +1,6 @@
 -- A permitted write leaves a sound repository sound.
-use Rattle.std.proofs.Common.{◌≡◌, ℕ, suc, ◌+◌, ◌<◌, ◌≤◌, Bool, true, false, cond, not, ◌&&◌, eqb, List, [], ◌∷◌, ◌++◌, Option, Some, None, refl, sym, ap, subst, ◌∙◌, arith}
-use Rattle.std.specs.Prelude.{All, IfOk, IfSome, is_some, Result, Ok, Err}
+use Rattle.std.proofs.Common.{◌≡◌, ℕ, ◌+◌, ◌<◌, ◌≤◌, Bool, true, false, cond, not, ◌&&◌, eqb, List, [], ◌∷◌, ◌++◌, Option, Some, None, refl, sym, ap, subst, ◌∙◌, arith}
+use Rattle.std.specs.Prelude.{IfOk, IfSome, is_some, Result, Ok, Err}
 use Prim.Native.Nat.{max}
 use Rattle.std.specs.List.{AllByRecursion, filter, find}
 use Rattle.std.specs.List.Sorted.{IsStrictlySortedBy}
@@ -13,7 +13,6 @@ use Rattle.std.proofs.lemmas.List.Elements.{All-from_recursion, All-nil, recursi
 use Rattle.rnv_base.specs.Names.{IsPath, IsRepositoryName}
 use Rattle.rnv_forge.specs.Applying.{Applies}
 use Rattle.rnv_forge.specs.declared.applying.ApplyError.{ApplyError}
-use Rattle.rnv_forge.specs.declared.branch.Branch.{Branch}
 use Rattle.rnv_forge.specs.declared.refusal.Refusal.{Refusal}
 use Rattle.rnv_forge.specs.declared.refusal.Refusal.TheVariants.{NoBranch, NumberTaken}
 use Rattle.rnv_forge.specs.declared.repo.Repo.{Repo}
@@ -27,7 +26,7 @@ use Rattle.rnv_forge.specs.Named.{IsRisingBy, at, put, put_beside, without}
 use Rattle.rnv_forge.specs.Requests.{is_live, is_live_on, live_on, greatest, next_number, at_number, edited, autoclosed, IsApart, AreApart, IsBased}
 use Rattle.rnv_forge.specs.Store.{name_of, with_base, applied_in, empty_repo, begun, refused_branch, refused_live, refusal_in, refusal_unknown, refusal_to, applied_to, known, applied, after, IsPermitted, ArePermitted, IsSound, IsSoundStore}
 use Rattle.rnv_forge.specs.WellFormed.{AreInOrder, HasOrder, IsOrderly, repo_of}
-use Rattle.rnv_forge.proofs.Texts.{cmp, bytes_true, bytes_refl, equal_texts, same_texts, greater_back, all_weaker}
+use Rattle.rnv_forge.proofs.Texts.{cmp, bytes_true, bytes_refl, same_texts, greater_back, all_weaker}
 
 -- lists in the order of a text
 
@@ -144,8 +143,8 @@ found_without key name gone (x ∷ xs) other h =
     elim (bytes_eq (key x) gone) as (λ b. bytes_eq (key x) gone ≡ b → is_some (at key name (cond (not b) (x ∷ without key gone xs) (without key gone xs))) ≡ true) [
       | true ↦ λ is.
           let apart : bytes_eq (key x) name ≡ false = false_from_ne_true (bytes_eq (key x) name) (λ t.
-              let e : name ≡ gone = sym (bytes_true (key x) name t) ∙ bytes_true (key x) gone is in
-              both_ways (bytes_eq name gone) other (ap (λ n. bytes_eq n gone) e ∙ bytes_refl gone)) in
+          let e : name ≡ gone = sym (bytes_true (key x) name t) ∙ bytes_true (key x) gone is in
+          both_ways (bytes_eq name gone) other (ap (λ n. bytes_eq n gone) e ∙ bytes_refl gone)) in
           found_without key name gone xs other (rw apart at h)
       | false ↦ λ is.
           elim (bytes_eq (key x) name) as (λ b. is_some (cond b (Some x) (at key name xs)) ≡ true → is_some (cond b (Some x) (at key name (without key gone xs))) ≡ true) [

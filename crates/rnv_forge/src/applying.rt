@@ -251,13 +251,14 @@ fn apply_known(alloc: Global, repo: Repo, write: &Write) -> Result<Repo, ApplyEr
 }
 
 /// What an orderly write makes of the repository of its name, or of none; `Refused` exactly where it
-/// is not permitted, with the first cause, unless memory runs out. The repository is sound, and its
-/// revision below 4294967295.
+/// is not permitted, with the first cause, unless memory runs out. The repository is sound, and so
+/// is what is answered; its revision is below 4294967295.
 pub fn apply(alloc: Global, known: Option<Repo>, write: &Write) -> Result<Repo, ApplyError>
     requires sound { IfSome known IsSound }
     requires revision { IfSome known (λ repo. repo.revision < 4294967295) }
     requires orderly { IsOrderly write.now }
-    ensures { Applies result (refusal_to write.now known) (applied_to write.now known) }
+    ensures applied { Applies result (refusal_to write.now known) (applied_to write.now known) }
+    ensures sound { IfOk result IsSound }
 {
     match known {
         None => apply_new(alloc, write),

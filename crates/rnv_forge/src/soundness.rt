@@ -10,5 +10,4 @@ ghost use Rattle.rnv_forge.specs.WellFormed.{IsOrderly};
 pub fn stays_sound()
     ensures one { (w : Write) (store : List Repo) → IsOrderly w → IsPermitted w store → IsSoundStore store → IsSoundStore (applied w store) }
     ensures all { (ws : List Write) → AllByRecursion IsOrderly ws → ArePermitted ws [] → IsSoundStore (after ws []) }
-{
-}
+{}
