@@ -102,7 +102,10 @@ fn two_files(rt: HostRuntime) -> Result<(), Fail> {
     let mut none = HereDisk::new(rt.clone()?);
     assert_eq!(rt; none.write_at(FileNo::Zero, 0, b"a"), Err(Failed));
     assert_eq!(rt; none.sync(FileNo::Zero), Err(Failed));
-    assert_eq!(rt; none.read(rt.alloc(), FileNo::Zero).err(), Some(DiskError::Failed));
+    assert_eq!(rt;
+        none.read(rt.alloc(), FileNo::Zero).err(),
+        Some(DiskError::Failed)
+    );
     fs::remove_dir_all(&rt, place.as_path())?;
     Ok(())
 }
