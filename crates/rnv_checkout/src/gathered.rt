@@ -1,0 +1,73 @@
+ghost use Rattle.std.specs.Prelude.{◌≡◌, ◌↔◌, ◌+◌, ◌<◌, ◌≤◌, ◌++◌, ◌∷◌, List as Items, [], Option, Some, IsTrue, OnOk};
+ghost use Rattle.rnv_base.specs.Files.{NamedFile};
+ghost use Rattle.rnv_checkout.specs.Gathered.{IsGathered};
+
+use rnv_base::List;
+use rnv_forge::EditedFile;
+use std::alloc::{AllocError, Global};
+use std::convert::AsSlice;
+
+// The most files of a base, and the most bytes of them together.
+pub(crate) const MOST_FILES: u64 = 20_000;
+
+pub(crate) const MOST_BYTES: u64 = 67_108_864;
+
+// The files that are kept so far, as long as they are within the limits, how many they are, how many bytes they have, and how many others there are.
+#[derive(Drop)]
+pub(crate) struct Gathered {
+    pub(crate) files: List<EditedFile>,
+    pub(crate) count: u64,
+    pub(crate) bytes: u64,
+    pub(crate) passed: u64,
+}
+
+impl Gathered {
+    // No file yet.
+    pub(crate) fn none(alloc: Global) -> Gathered
+        ensures { IsGathered result [] }
+    {
+        Gathered {
+            files: List::empty(alloc),
+            count: 0,
+            bytes: 0,
+            passed: 0,
+        }
+    }
+
+    // Whether what is kept so far is within the limits.
+    pub(crate) fn is_within(&self) -> bool
+        ensures { IsTrue result ↔ ((self.now.count ≤ 20000) × (self.now.bytes ≤ 67108864)) }
+    {
+        self.count <= MOST_FILES && self.bytes <= MOST_BYTES
+    }
+
+    // Keeps one file more.
+    fn keep(&mut self, file: EditedFile) -> Result<(), AllocError>
+        ensures kept { OnOk result ((outcomes : Items (Option NamedFile)) → IsGathered self.old outcomes → IsGathered self.new (outcomes ++ Some file ∷ [])) }
+        ensures passed { self.new.passed ≡ self.old.passed }
+    {
+        self.count = self.count.saturating_add(1);
+        self.bytes = self
+            .bytes
+            .saturating_add(file.bytes.as_slice().len() as u64);
+        if self.is_within() {
+            self.files.push(file)?;
+        }
+        Ok(())
+    }
+
+    // Takes what becomes of one path more.
+    pub(crate) fn take(&mut self, outcome: Option<EditedFile>) -> Result<(), AllocError>
+        requires { self.old.passed < 18446744073709551615 }
+        ensures taken { OnOk result ((outcomes : Items (Option NamedFile)) → IsGathered self.old outcomes → IsGathered self.new (outcomes ++ outcome ∷ [])) }
+        ensures passed { self.new.passed ≤ self.old.passed + 1 }
+    {
+        match outcome {
+            Some(file) => self.keep(file),
+            None => {
+                self.passed += 1;
+                Ok(())
+            }
+        }
+    }
+}
