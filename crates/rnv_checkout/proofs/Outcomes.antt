@@ -7,7 +7,7 @@ use Rattle.rnv_checkout.specs.declared.error.BaseError.{BaseError}
 use Rattle.rnv_checkout.specs.declared.error.BaseError.TheVariants.{FolderFault, Limit, UnknownRepo, Memory}
 use Rattle.rnv_checkout.specs.declared.error.FolderBase.{FolderBase}
 use Rattle.rnv_checkout.specs.declared.gathered.Gathered.{Gathered}
-use Rattle.rnv_checkout.specs.Base.{kept_of, AreKept, IsOutcome}
+use Rattle.rnv_checkout.specs.Base.{kept_of, AreKept, IsOutcome, IsPlaced}
 use Rattle.rnv_checkout.specs.Gathered.{IsGathered}
 use Rattle.rnv_checkout.specs.Refusal.{IsWrong, IsRefusal}
 
@@ -33,6 +33,15 @@ each_more files now front paths i path shown outcomes outcome so_far same is her
     let whole : take (i + 1) paths ≡ take i paths ++ get_or paths i path ∷ [] = take_more paths i path less in
     subst (λ (l : List (List ℕ)). AllZip (IsOutcome files front) l (outcomes ++ outcome ∷ [])) (sym whole)
     (zip_push (IsOutcome files front) (take i paths) outcomes (get_or paths i path) outcome so_far goes_on)
+
+pub placed_more : (front : List ℕ) (paths : List (List ℕ)) (i : ℕ) (path shown : List ℕ) (outcomes : List (Option NamedFile)) (outcome : Option NamedFile)
+    → AllZip (IsPlaced front) (take i paths) outcomes → shown ≡ path → path ≡ get_or paths i path → i < length paths → IsPlaced front shown outcome
+    → AllZip (IsPlaced front) (take (i + 1) paths) (outcomes ++ outcome ∷ [])
+placed_more front paths i path shown outcomes outcome so_far is here less one =
+    let goes_on = subst (λ (p : List ℕ). IsPlaced front p outcome) (is ∙ here) one in
+    let whole : take (i + 1) paths ≡ take i paths ++ get_or paths i path ∷ [] = take_more paths i path less in
+    subst (λ (l : List (List ℕ)). AllZip (IsPlaced front) l (outcomes ++ outcome ∷ [])) (sym whole)
+    (zip_push (IsPlaced front) (take i paths) outcomes (get_or paths i path) outcome so_far goes_on)
 
 module _ (files : List NamedFile) (front : List ℕ) (paths : List (List ℕ)) (gathered : Gathered) (outcomes : List (Option NamedFile))
     (are : IsGathered gathered outcomes) (each : AllZip (IsOutcome files front) paths outcomes) where

@@ -26,6 +26,11 @@ abbrev pub IsOutcome : List NamedFile → List ℕ → List ℕ → Option Named
 IsOutcome files folder path (Some f) = IsAt files folder path f × IsKept f
 IsOutcome files folder path None = (f : NamedFile) → IsAt files folder path f → ¬ IsKept f
 
+-- also where the folder tells nothing: the file that is kept of this path has a path in the repository
+abbrev pub IsPlaced : List ℕ → List ℕ → Option NamedFile → Type 0
+IsPlaced folder path (Some f) = (path ≡ folder ++ f.path) × IsPath f.path
+IsPlaced folder path None = Unit {0}
+
 -- the files that are kept, of what becomes of each path
 abbrev pub kept_of : List (Option NamedFile) → List NamedFile
 kept_of outcomes = flat_map option_to_list outcomes

@@ -6,6 +6,8 @@ mod gathered;
 mod judging;
 mod keeping;
 mod reading;
+#[cfg(test)]
+mod tests;
 
 pub use error::{BaseError, FolderBase};
 pub use reading::read_base;

@@ -1,8 +1,9 @@
 ghost use Rattle.std.specs.Prelude.{◌≡◌, ℕ, List as Items, IfOk, IfErr, Option};
 ghost use Rattle.std.specs.List.{AllZip};
 ghost use Rattle.rnv_base.specs.Causes.{FaultsBy};
-ghost use Rattle.rnv_base.specs.Files.{NamedFile, listed_of};
-ghost use Rattle.rnv_checkout.specs.Base.{folder_of, IsBase, IsOutcome, IsWithin};
+ghost use Rattle.rnv_base.specs.Files.{NamedFile, IsRising, listed_of};
+ghost use Rattle.rnv_checkout.specs.Base.{folder_of, IsBase, IsOutcome, IsPlaced, IsWithin};
+ghost use Rattle.rnv_forge.specs.WellFormed.{AreInOrder};
 ghost use Rattle.rnv_checkout.specs.Gathered.{IsGathered};
 ghost use Rattle.rnv_checkout.specs.Refusal.{IsPlain, IsRefusal};
 ghost use Rattle.rnv_checkout.specs.declared.error.BaseError.TheVariants.{FolderFault as fault};
@@ -26,6 +27,7 @@ fn folder_path(alloc: Global, repo: &str) -> Result<Text, AllocError>
 // The paths of the repository's files.
 fn listed<O: Folder>(alloc: Global, folder: &mut O, front: &str) -> Result<List<Text>, BaseError>
     ensures paths { O.tells → IfOk result (λ paths. paths ≡ listed_of front.now (O.files folder.old)) }
+    ensures rising { IfOk result IsRising }
     ensures plain { IfErr result IsPlain }
     ensures same { O.tells → (O.files folder.new ≡ O.files folder.old) }
     ensures cause { FaultsBy (O.faults folder.old) (O.faults folder.new) result fault }
@@ -45,6 +47,7 @@ fn kept_file<O: Folder>(
     path: &str,
 ) -> Result<Option<EditedFile>, BaseError>
     ensures outcome { O.tells → IfOk result (IsOutcome (O.files folder.old) front.now path.now) }
+    ensures placed { IfOk result (IsPlaced front.now path.now) }
     ensures plain { IfErr result IsPlain }
     ensures same { O.tells → (O.files folder.new ≡ O.files folder.old) }
     ensures cause { FaultsBy (O.faults folder.old) (O.faults folder.new) result fault }
@@ -74,6 +77,7 @@ fn gathered<O: Folder>(
     paths: &[Text],
 ) -> Result<Gathered, BaseError>
     ensures each { O.tells → IfOk result (λ found. (outcomes : Items (Option NamedFile)) × IsGathered found outcomes × AllZip (IsOutcome (O.files folder.old) front.now) paths.now outcomes) }
+    ensures placed { IfOk result (λ found. (outcomes : Items (Option NamedFile)) × IsGathered found outcomes × AllZip (IsPlaced front.now) paths.now outcomes) }
     ensures plain { IfErr result IsPlain }
     ensures same { O.tells → (O.files folder.new ≡ O.files folder.old) }
     ensures cause { FaultsBy (O.faults folder.old) (O.faults folder.new) result fault }
@@ -89,6 +93,7 @@ fn gathered<O: Folder>(
 // What is gathered of the repository's files.
 fn collected<O: Folder>(alloc: Global, folder: &mut O, repo: &str) -> Result<Gathered, BaseError>
     ensures each { O.tells → IfOk result (λ found. (outcomes : Items (Option NamedFile)) × IsGathered found outcomes × AllZip (IsOutcome (O.files folder.old) (folder_of repo.now)) (listed_of (folder_of repo.now) (O.files folder.old)) outcomes) }
+    ensures placed { IfOk result (λ found. (paths : Items (Items ℕ)) × (outcomes : Items (Option NamedFile)) × IsRising paths × IsGathered found outcomes × AllZip (IsPlaced (folder_of repo.now)) paths outcomes) }
     ensures plain { IfErr result IsPlain }
     ensures same { O.tells → (O.files folder.new ≡ O.files folder.old) }
     ensures cause { FaultsBy (O.faults folder.old) (O.faults folder.new) result fault }
@@ -109,7 +114,9 @@ pub fn read_base<O: Folder>(
     repo: &str,
 ) -> Result<FolderBase, BaseError>
     ensures base { O.tells → IfOk result (λ base. IsBase (O.files folder.old) (folder_of repo.now) base.files base.passed) }
-    ensures within { O.tells → IfOk result (λ base. IsWithin base.files) }
+    // Also of a folder that tells nothing.
+    ensures within { IfOk result (λ base. IsWithin base.files) }
+    ensures order { IfOk result (λ base. AreInOrder (λ f. f.path) base.files) }
     ensures refused { O.tells → IfErr result (IsRefusal (O.files folder.old) (folder_of repo.now)) }
     ensures same { O.tells → (O.files folder.new ≡ O.files folder.old) }
     ensures cause { FaultsBy (O.faults folder.old) (O.faults folder.new) result fault }

@@ -4,6 +4,8 @@ use Rattle.rnv_checkout.specs.declared.error.BaseError.{BaseError}
 use Rattle.rnv_checkout.specs.Base.{folder_of, kept_of, IsBase}
 use Rattle.rnv_checkout.specs.Gathered.{IsGathered}
 use Rattle.rnv_checkout.specs.Refusal.{IsWrong, IsRefusal}
+use Rattle.rnv_forge.specs.WellFormed.{AreInOrder}
+use Rattle.rnv_checkout.proofs.Order.{kept_in_order}
 use Rattle.rnv_checkout.proofs.Outcomes.{kept_are, ok_both, err_weaker, refusal_of}
 use Rattle.rnv_checkout.proofs.reading.read_base.Goals as goal
 
@@ -24,3 +26,11 @@ returns-in-Ok-clause-refused g c t =
     let each = c.in-Ok.ensures.each t in
     err_weaker c.judged.result (λ error. (outcomes : List (Option NamedFile)) → IsGathered c.in-Ok.gathered outcomes → IsWrong error (kept_of outcomes)) (IsRefusal files front)
     (λ error wrong. refusal_of files front c.in-Ok.gathered each.0 each.1 each.2 error (wrong each.0 each.1)) c.judged.ensures.wrong
+
+pub returns-in-Ok-clause-order : goal.returns-in-Ok-clause-order
+returns-in-Ok-clause-order g c =
+    let front = folder_of c.args.repo.now in
+    let placed = c.in-Ok.ensures.placed in
+    ok_both c.judged.result (λ base. (outcomes : List (Option NamedFile)) → IsGathered c.in-Ok.gathered outcomes → base.files ≡ kept_of outcomes) (λ base. base.passed ≡ c.in-Ok.gathered.passed)
+    (λ base. AreInOrder (λ f. f.path) base.files)
+    (λ base kept passed. kept_in_order front placed.0 placed.1 base.files (kept placed.1 placed.3) placed.2 placed.4) c.judged.ensures.files c.judged.ensures.passed
