@@ -5,7 +5,6 @@ use Rattle.std.specs.List.{AllZip}
 use Rattle.rnv_base.specs.Files.{NamedFile, listed_of}
 use Rattle.rnv_checkout.specs.declared.error.BaseError.{BaseError}
 use Rattle.rnv_checkout.specs.declared.error.BaseError.TheVariants.{FolderFault, Limit, UnknownRepo, Memory}
-use Rattle.rnv_checkout.specs.declared.error.FolderBase.{FolderBase}
 use Rattle.rnv_checkout.specs.declared.gathered.Gathered.{Gathered}
 use Rattle.rnv_checkout.specs.Base.{kept_of, AreKept, IsOutcome, IsPlaced}
 use Rattle.rnv_checkout.specs.Gathered.{IsGathered}

@@ -1,5 +1,5 @@
 -- What is gathered of the paths of a folder.
-use Rattle.std.specs.Prelude.{◌≡◌, ℕ, ◌+◌, ◌-◌, ◌^◌, ◌≤◌, List, length, min, Option}
+use Rattle.std.specs.Prelude.{◌≡◌, ◌+◌, ◌-◌, ◌^◌, ◌≤◌, List, length, min, Option}
 use Rattle.rnv_base.specs.Files.{NamedFile}
 use Rattle.rnv_checkout.specs.declared.gathered.Gathered.{Gathered}
 use Rattle.rnv_checkout.specs.Base.{kept_of, size_of}

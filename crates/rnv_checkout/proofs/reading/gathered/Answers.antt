@@ -1,4 +1,4 @@
-use Rattle.std.proofs.Common.{◌≡◌, ◌++◌, ◌∷◌, [], get_or, sym, rules, arith}
+use Rattle.std.proofs.Common.{◌≡◌, ◌++◌, ◌∷◌, [], get_or, rules, arith}
 use Rattle.rnv_checkout.proofs.Outcomes.{each_more, placed_more}
 use Rattle.rnv_checkout.proofs.reading.gathered.Goals as goal
 

@@ -1,6 +1,5 @@
-use Rattle.std.proofs.Common.{◌≡◌, List, Option, sym}
+use Rattle.std.proofs.Common.{◌≡◌, List, Option}
 use Rattle.rnv_base.specs.Files.{NamedFile, listed_of}
-use Rattle.rnv_checkout.specs.declared.error.BaseError.{BaseError}
 use Rattle.rnv_checkout.specs.Base.{folder_of, kept_of, IsBase}
 use Rattle.rnv_checkout.specs.Gathered.{IsGathered}
 use Rattle.rnv_checkout.specs.Refusal.{IsWrong, IsRefusal}
