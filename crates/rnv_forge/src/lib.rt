@@ -26,7 +26,7 @@ pub use applying::{ApplyError, apply};
 pub use branch::{Branch, Key};
 pub use delivery::{Delivery, Event};
 pub use file::{EditedFile, FileAt, FileChange};
-pub use orderly::is_orderly;
+pub use orderly::{is_orderly, repo_of};
 pub use reading::{one_spelling, read_write};
 pub use refusal::Refusal;
 pub use repo::Repo;

@@ -57,8 +57,8 @@ fn are_in_order<T: HasPath>(items: &[T]) -> bool
     are_paths(items) && are_rising(items)
 }
 
-// The name of the repository that a write changes.
-pub(crate) fn repo_of(write: &Write) -> &Text
+/// The name of the repository that a write changes.
+pub fn repo_of(write: &Write) -> &Text
     ensures { result.now ≡ repo_of write.now }
 {
     match write {

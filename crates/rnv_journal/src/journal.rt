@@ -112,6 +112,14 @@ impl Journal {
         self.prepared.len()
     }
 
+    /// The length of the file, up to and with its last gate, which is within the limit.
+    pub fn length(&self) -> u64
+        ensures counted { result ≡ counted self.now.entries }
+        ensures within { counted (self.now.entries ++ self.now.prepared) ≤ self.now.limit }
+    {
+        self.end + 1
+    }
+
     /// The offset of the gate of the entry with this index, which is below the number of entries.
     pub fn place(&self, index: usize) -> u64
         requires { index < length self.now.entries }

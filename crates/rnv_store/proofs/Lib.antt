@@ -1,0 +1,7 @@
+pub mod ByName
+pub mod Checking
+pub mod Each
+pub mod Folding
+pub mod Revisions
+pub mod Turns
+pub mod Writes

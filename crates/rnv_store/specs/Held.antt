@@ -1,0 +1,18 @@
+-- What the journal of a store holds.
+use Rattle.std.specs.Prelude.{◌≡◌, ◌≤◌, false, [], ◌++◌}
+use Rattle.rnv_disk.specs.Stops.{Past}
+use Rattle.rnv_forge.specs.Store.{ArePermitted}
+use Rattle.rnv_journal.specs.File.{counted}
+use Rattle.rnv_journal.specs.Held.{Held}
+use Rattle.rnv_journal.specs.Readings.{IsAtRest}
+use Rattle.rnv_store.specs.Writes.{IsSpelledBy, writes_in}
+
+-- The entries and then what is prepared are permitted writes within the limit, and unless the journal is closed the disk is
+-- at rest at the entries.
+pub record HoldsWrites (held : Held) (past : Past) : Type 0 where
+  pub entries : IsSpelledBy held.entries (writes_in held.entries)
+  pub prepared : IsSpelledBy held.prepared (writes_in held.prepared)
+  pub permitted : ArePermitted (writes_in held.entries ++ writes_in held.prepared) []
+  pub within : counted (held.entries ++ held.prepared) ≤ held.limit
+  pub small : held.limit ≤ 4294967295
+  pub rests : held.closed ≡ false → IsAtRest held.limit past held.entries

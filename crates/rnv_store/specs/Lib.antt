@@ -1,0 +1,6 @@
+pub mod ByName
+pub mod Forge
+pub mod Held
+pub mod Laws
+pub mod Refused
+pub mod Writes

@@ -1,0 +1,12 @@
+//! The store of repositories, as a list of writes over a journal: after a stop at any moment it
+//! holds the writes from before, or those and the next prepared one.
+#![tactic(auto)]
+
+mod forge;
+mod journal_forge;
+mod store;
+mod stored;
+mod texts;
+
+pub use forge::{Forge, ForgePrepareError, WriteError};
+pub use journal_forge::{JournalForge, StartRefused};
