@@ -1,7 +1,8 @@
 -- What the journal of a store holds.
-use Rattle.std.specs.Prelude.{◌≡◌, ◌≤◌, false, [], ◌++◌}
+use Rattle.std.specs.Prelude.{◌≡◌, ◌≤◌, ℕ, false, List, [], ◌++◌}
 use Rattle.rnv_disk.specs.Stops.{Past}
-use Rattle.rnv_forge.specs.Store.{ArePermitted}
+use Rattle.rnv_forge.specs.declared.write.Write.{Write}
+use Rattle.rnv_forge.specs.Store.{ArePermitted, after}
 use Rattle.rnv_journal.specs.File.{counted}
 use Rattle.rnv_journal.specs.Held.{Held}
 use Rattle.rnv_journal.specs.Readings.{IsAtRest}
@@ -16,3 +17,12 @@ pub record HoldsWrites (held : Held) (past : Past) : Type 0 where
   pub within : counted (held.entries ++ held.prepared) ≤ held.limit
   pub small : held.limit ≤ 4294967295
   pub rests : held.closed ≡ false → IsAtRest held.limit past held.entries
+
+-- the journal has these writes prepared, which are permitted in their turn and within the limit
+pub record IsPrepared (old : Held) (ws : List Write) (new : Held) : Type 0 where
+  pub payloads : List (List ℕ)
+  pub spelled : IsSpelledBy payloads ws
+  pub read : writes_in payloads ≡ ws
+  pub permitted : ArePermitted ws (after (writes_in old.entries) [])
+  pub within : counted (old.entries ++ payloads) ≤ old.limit
+  pub is : new ≡ record old { prepared = payloads }

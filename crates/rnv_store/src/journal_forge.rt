@@ -1,13 +1,30 @@
-ghost use Rattle.rnv_store.specs.Held.{HoldsWrites};
-ghost use Rattle.rnv_store.specs.Laws.{held_well_formed, held_within, held_at_rest};
-ghost use Rattle.rnv_store.specs.Writes.{writes_in};
+ghost use Rattle.std.specs.Prelude.{◌≡◌, ◌≤◌, ◌↔◌, ℕ, false, true, [], ◌++◌, IfErr, IfOk, IsErrOf, OnErr, OnOk};
+ghost use Rattle.std.specs.List.{AllByRecursion};
+ghost use Rattle.rnv_base.specs.Causes.{FaultsBy};
+ghost use Rattle.rnv_forge.specs.declared.refusal.Refusal.{Refusal as Cause};
+ghost use Rattle.rnv_forge.specs.Store.{ArePermitted, after};
+ghost use Rattle.rnv_forge.specs.WellFormed.{IsOrderly};
+ghost use Rattle.rnv_journal.specs.File.{counted};
+ghost use Rattle.rnv_journal.specs.Found.{strings};
+ghost use Rattle.rnv_journal.specs.Held.{IsTooLong};
+ghost use Rattle.rnv_journal.specs.Readings.{KeepsReadings};
+ghost use Rattle.rnv_store.specs.declared.forge.ForgePrepareError.TheVariants.{Full, Refused as PrepareRefused};
+ghost use Rattle.rnv_store.specs.declared.stored.CheckError.TheVariants.{Refused};
+ghost use Rattle.rnv_store.specs.Forge.{IsOverfull};
+ghost use Rattle.rnv_store.specs.Held.{HoldsWrites, IsPrepared};
+ghost use Rattle.rnv_store.specs.Laws.{held_at_rest, held_well_formed, held_within};
+ghost use Rattle.rnv_store.specs.Refused.{IsFirstRefused};
+ghost use Rattle.rnv_store.specs.Writes.{AreWrites, IsSpelledBy, writes_in};
 
+use crate::store::Store;
+use crate::stored::{CheckError, StoredError, checked, names_of, stored};
 use crate::{Forge, ForgePrepareError, WriteError};
-use rnv_base::{List, Text};
+use rnv_base::{Bytes, List, Text};
 use rnv_disk::Disk;
 use rnv_forge::{Repo, Write};
-use rnv_journal::{AppendError, Journal, StartError};
+use rnv_journal::{AppendError, Journal, PrepareError, StartError};
 use std::alloc::{AllocError, Global};
+use std::convert::AsSlice;
 
 /// The repositories whose writes are the entries of the journal on a disk.
 #[derive(Drop)]
@@ -49,15 +66,18 @@ impl<D: Disk> Forge for JournalForge<D> {
     ghost at_rest = { λ f h. held_at_rest f.journal (D.past f.disk) h };
 
     fn names(&self, alloc: Global) -> Result<List<Text>, AllocError> {
-        Err(AllocError)
+        let store = store_of(alloc, &self.journal)?;
+        let repos = store.into_repos(alloc)?;
+        names_of(alloc, repos.as_slice())
     }
 
     fn repo(&self, alloc: Global, name: &Text) -> Result<Option<Repo>, AllocError> {
-        Err(AllocError)
+        let store = store_of(alloc, &self.journal)?;
+        Ok(store.into_repo(name))
     }
 
     fn prepare(&mut self, alloc: Global, list: List<Write>) -> Result<(), ForgePrepareError> {
-        Err(ForgePrepareError::Memory)
+        prepare_writes(alloc, &mut self.journal, list.as_slice())
     }
 
     fn write_next(&mut self) -> Result<(), WriteError> {
@@ -66,5 +86,91 @@ impl<D: Disk> Forge for JournalForge<D> {
             Err(AppendError::DiskFault) => Err(WriteError::DiskFault),
             Err(AppendError::Closed) => Err(WriteError::Closed),
         }
+    }
+}
+
+// The store that the writes of a journal's entries make.
+fn store_of(alloc: Global, journal: &Journal) -> Result<Store, AllocError>
+    requires writes { AreWrites journal.now.entries }
+    requires small { journal.now.limit ≤ 4294967295 }
+    ensures ok { IfOk result (λ store. store ≡ after (writes_in journal.now.entries) []) }
+    ensures revisions { IfOk result (λ store. AllByRecursion (λ repo. repo.revision ≤ 900000000) store) }
+{
+    let _ = journal.length();
+    match stored(alloc, journal.entries()) {
+        Ok(store) => Ok(store),
+        Err(StoredError::Memory) => Err(AllocError),
+        Err(StoredError::Damaged { .. }) => unreachable!(),
+    }
+}
+
+// The byte strings that spell orderly writes, which are permitted in their turn after those of the entries. More than
+// 3,000,000,000 writes are more than there is memory for.
+fn payloads_of(alloc: Global, journal: &Journal, list: &[Write]) -> Result<List<Bytes>, CheckError>
+    requires writes { AreWrites journal.now.entries }
+    requires small { journal.now.limit ≤ 4294967295 }
+    requires orderly { AllByRecursion IsOrderly list.now }
+    ensures spelled { IfOk result (λ payloads. IsSpelledBy (strings payloads) list.now) }
+    ensures read { IfOk result (λ payloads. writes_in (strings payloads) ≡ list.now) }
+    ensures permitted { OnOk result (ArePermitted list.now (after (writes_in journal.now.entries) [])) }
+    ensures refused { (index : ℕ) (cause : Cause) → IsErrOf result (Refused index cause) → IsFirstRefused list.now (after (writes_in journal.now.entries) []) index cause }
+{
+    if list.len() > 3_000_000_000 {
+        return Err(CheckError::Memory);
+    }
+    match store_of(alloc, journal) {
+        Ok(store) => checked(alloc, store, list),
+        Err(_) => Err(CheckError::Memory),
+    }
+}
+
+// Prepares orderly writes in a journal whose entries are permitted writes.
+fn prepare_writes(
+    alloc: Global,
+    journal: &mut Journal,
+    list: &[Write],
+) -> Result<(), ForgePrepareError>
+    requires writes { AreWrites journal.old.entries }
+    requires small { journal.old.limit ≤ 4294967295 }
+    requires orderly { AllByRecursion IsOrderly list.now }
+    ensures ok { OnOk result (IsPrepared journal.old list.now journal.new) }
+    ensures err { OnErr result (journal.new ≡ record journal.old { prepared = [] }) }
+    ensures closed { IsErrOf result ForgePrepareError.Closed ↔ (journal.old.closed ≡ true) }
+    ensures refused { (index : ℕ) (cause : Cause) → IsErrOf result (PrepareRefused index cause) → IsFirstRefused list.now (after (writes_in journal.old.entries) []) index cause }
+    ensures full { (length most : ℕ) → IsErrOf result (Full length most) → IsOverfull (writes_in journal.old.entries) list.now journal.old.limit length most }
+{
+    match journal.prepare(alloc, List::empty(alloc)) {
+        Ok(()) => {}
+        Err(PrepareError::Closed) => return Err(ForgePrepareError::Closed),
+        Err(_) => return Err(ForgePrepareError::Memory),
+    }
+    match payloads_of(alloc, journal, list) {
+        Ok(payloads) => prepare_payloads(alloc, journal, payloads),
+        Err(CheckError::Memory) => Err(ForgePrepareError::Memory),
+        Err(CheckError::Refused { index, cause }) => {
+            Err(ForgePrepareError::Refused { index, cause })
+        }
+    }
+}
+
+// Prepares byte strings in a journal that is not closed.
+fn prepare_payloads(
+    alloc: Global,
+    journal: &mut Journal,
+    payloads: List<Bytes>,
+) -> Result<(), ForgePrepareError>
+    requires { journal.old.closed ≡ false }
+    ensures ok { OnOk result (journal.new ≡ record journal.old { prepared = strings payloads }) }
+    ensures err { OnErr result (journal.new ≡ record journal.old { prepared = [] }) }
+    ensures within { OnOk result (counted (journal.old.entries ++ strings payloads) ≤ journal.old.limit) }
+    ensures full { (length most : ℕ) → IsErrOf result (Full length most) → IsTooLong journal.old (strings payloads) length most }
+    ensures closed { ¬ IsErrOf result ForgePrepareError.Closed }
+    ensures refused { (index : ℕ) (cause : Cause) → ¬ IsErrOf result (PrepareRefused index cause) }
+{
+    match journal.prepare(alloc, payloads) {
+        Ok(()) => Ok(()),
+        Err(PrepareError::Closed) => unreachable!(),
+        Err(PrepareError::Full { length, limit }) => Err(ForgePrepareError::Full { length, limit }),
+        Err(PrepareError::Memory) => Err(ForgePrepareError::Memory),
     }
 }

@@ -1,0 +1,5 @@
+use Rattle.rnv_store.proofs.Preparing.{held_are}
+use Rattle.rnv_store.proofs.journal_forge.JournalForgeForge.repo.Goals as goal
+
+pub store_of-requires-clause-writes : goal.store_of-requires-clause-writes
+store_of-requires-clause-writes g c = held_are c.args.self.now.journal (g.D.Disk.past c.args.self.now.disk) c.requires
