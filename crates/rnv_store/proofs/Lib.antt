@@ -4,5 +4,6 @@ pub mod Each
 pub mod Folding
 pub mod Preparing
 pub mod Revisions
+pub mod Starting
 pub mod Turns
 pub mod Writes

@@ -3,4 +3,5 @@ pub mod Forge
 pub mod Held
 pub mod Laws
 pub mod Refused
+pub mod Start
 pub mod Writes

@@ -1,6 +1,5 @@
-ghost use Rattle.std.specs.Prelude.{◌≡◌, ◌≤◌, ◌↔◌, ℕ, false, true, [], ◌++◌, IfErr, IfOk, IsErrOf, OnErr, OnOk};
+ghost use Rattle.std.specs.Prelude.{◌≡◌, ◌≤◌, ◌↔◌, ℕ, false, true, [], ◌++◌, map, IfErr, IfOk, IsErrOf, OnErr, OnOk};
 ghost use Rattle.std.specs.List.{AllByRecursion};
-ghost use Rattle.rnv_base.specs.Causes.{FaultsBy};
 ghost use Rattle.rnv_forge.specs.declared.refusal.Refusal.{Refusal as Cause};
 ghost use Rattle.rnv_forge.specs.Store.{ArePermitted, after};
 ghost use Rattle.rnv_forge.specs.WellFormed.{IsOrderly};
@@ -8,6 +7,9 @@ ghost use Rattle.rnv_journal.specs.File.{counted};
 ghost use Rattle.rnv_journal.specs.Found.{strings};
 ghost use Rattle.rnv_journal.specs.Held.{IsTooLong};
 ghost use Rattle.rnv_journal.specs.Readings.{KeepsReadings};
+ghost use Rattle.rnv_journal.specs.Reading.{ReadsAs};
+ghost use Rattle.rnv_forge.specs.Spelling.{spelling};
+ghost use Rattle.rnv_store.specs.Start.{IsStoreRefusal, RefusedBy};
 ghost use Rattle.rnv_store.specs.declared.forge.ForgePrepareError.TheVariants.{Full, Refused as PrepareRefused};
 ghost use Rattle.rnv_store.specs.declared.stored.CheckError.TheVariants.{Refused};
 ghost use Rattle.rnv_store.specs.Forge.{IsOverfull};
@@ -16,6 +18,7 @@ ghost use Rattle.rnv_store.specs.Laws.{held_at_rest, held_well_formed, held_with
 ghost use Rattle.rnv_store.specs.Refused.{IsFirstRefused};
 ghost use Rattle.rnv_store.specs.Writes.{AreWrites, IsSpelledBy, writes_in};
 
+use crate::start::started;
 use crate::store::Store;
 use crate::stored::{CheckError, StoredError, checked, names_of, stored};
 use crate::{Forge, ForgePrepareError, WriteError};
@@ -40,6 +43,60 @@ pub struct StartRefused<D> {
     pub error: StartError,
     /// The disk.
     pub disk: D,
+}
+
+impl<D: Disk> JournalForge<D> {
+    /// The forge of a disk, whose journal has at most 268435456 bytes: the writes of its entries,
+    /// applied in order. `DiskFault` only where the disk counted a fault; `NotAJournal` exactly where
+    /// the bytes are no journal within the limit, with the offset at which they go wrong, or where
+    /// an entry is no permitted write, with the offset of its gate; `Memory`. A refusal hands the
+    /// disk back.
+    pub fn start(alloc: Global, disk: D) -> Result<JournalForge<D>, StartRefused<D>>
+        ensures holds { IfOk result ⟦<JournalForge<D> as Forge>⟧.holds }
+        // From a disk that has readings a stop at any moment leaves readings that stood on entry.
+        ensures any_moment { IfOk result (λ forge. KeepsReadings 268435456 (D.past disk) (⟦<JournalForge<D> as Forge>⟧.past forge)) }
+        ensures any_moment_refused { IfErr result (λ refused. KeepsReadings 268435456 (D.past disk) (D.past refused.disk)) }
+        ensures writes { D.tells → IfOk result (λ forge. ReadsAs 268435456 (D.seen disk).zero (map spelling (⟦<JournalForge<D> as Forge>⟧.writes forge))) }
+        ensures none { IfOk result (λ forge. ⟦<JournalForge<D> as Forge>⟧.prepared forge ≡ []) }
+        ensures limit { IfOk result (λ forge. ⟦<JournalForge<D> as Forge>⟧.limit forge ≡ 268435456) }
+        ensures opened { IfOk result (λ forge. ⟦<JournalForge<D> as Forge>⟧.closed forge ≡ false) }
+        ensures refused { D.tells → IfErr result (λ refused. IsStoreRefusal 268435456 (D.seen disk).zero refused.error) }
+        ensures later { IfOk result (λ forge. D.faults disk ≤ ⟦<JournalForge<D> as Forge>⟧.faults forge) }
+        ensures cause { IfErr result (λ refused. RefusedBy (D.faults disk) (D.faults refused.disk) refused.error) }
+    {
+        JournalForge::start_within(alloc, disk, 268_435_456)
+    }
+
+    // The same with a limit.
+    pub(crate) fn start_within(
+        alloc: Global,
+        mut disk: D,
+        limit: u64,
+    ) -> Result<JournalForge<D>, StartRefused<D>>
+        requires enough { 14 ≤ limit }
+        requires small { limit ≤ 4294967295 }
+        ensures holds { IfOk result (λ forge. HoldsWrites forge.journal (D.past forge.disk)) }
+        ensures any_moment { IfOk result (λ forge. KeepsReadings limit (D.past disk) (D.past forge.disk)) }
+        ensures any_moment_refused { IfErr result (λ refused. KeepsReadings limit (D.past disk) (D.past refused.disk)) }
+        ensures entries { D.tells → IfOk result (λ forge. ReadsAs limit (D.seen disk).zero forge.journal.entries) }
+        ensures fresh { IfOk result (λ forge. (forge.journal.prepared ≡ []) × (forge.journal.limit ≡ limit) × (forge.journal.closed ≡ false)) }
+        ensures refused { D.tells → IfErr result (λ refused. IsStoreRefusal limit (D.seen disk).zero refused.error) }
+        ensures later { IfOk result (λ forge. D.faults disk ≤ D.faults forge.disk) }
+        ensures cause { IfErr result (λ refused. RefusedBy (D.faults disk) (D.faults refused.disk) refused.error) }
+    {
+        match started(alloc, &mut disk, limit) {
+            Ok(journal) => Ok(JournalForge { disk, journal }),
+            Err(error) => Err(StartRefused { error, disk }),
+        }
+    }
+
+    /// The disk as it stands.
+    pub fn into_disk(self) -> D
+        ensures { result ≡ self.disk }
+    {
+        let JournalForge { disk, journal: _ } = self;
+        disk
+    }
 }
 
 impl<D: Disk> Forge for JournalForge<D> {

@@ -4,6 +4,7 @@
 
 mod forge;
 mod journal_forge;
+mod start;
 mod store;
 mod stored;
 mod texts;

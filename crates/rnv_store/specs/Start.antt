@@ -1,0 +1,33 @@
+-- What the start of a store answers.
+use Rattle.std.specs.Prelude.{◌≡◌, ◌≤◌, ◌⊎◌, ℕ, List, take}
+use Rattle.rnv_base.specs.Causes.{Rose}
+use Rattle.rnv_journal.specs.File.{IsWrongAt, end_of}
+use Rattle.rnv_journal.specs.Reading.{ReadsAs}
+use Rattle.rnv_journal.specs.declared.start.StartError.{StartError}
+use Rattle.rnv_journal.specs.declared.start.StartError.TheVariants.{DiskFault, NotAJournal, Memory}
+use Rattle.rnv_store.specs.Writes.{IsDamaged}
+
+-- `NotAJournal` comes with the offset of the gate of the first entry that is no permitted write
+abbrev pub IsDamage : List (List ℕ) → StartError → Type 0
+IsDamage payloads DiskFault = ⊥
+IsDamage payloads (NotAJournal offset) = (index : ℕ) × IsDamaged payloads index × (offset ≡ end_of (take index payloads))
+IsDamage payloads Memory = Unit {0}
+
+-- the file reads as byte strings, and this is the offset of the gate of the first that spells no permitted write
+pub record IsDamagedAt (limit : ℕ) (file : List ℕ) (offset : ℕ) : Type 0 where
+  pub payloads : List (List ℕ)
+  pub read : ReadsAs limit file payloads
+  pub index : ℕ
+  pub damaged : IsDamaged payloads index
+  pub place : offset ≡ end_of (take index payloads)
+
+-- `NotAJournal` comes with the offset at which the file goes wrong, or with that of the first entry that is no permitted write
+abbrev pub IsStoreRefusal : ℕ → List ℕ → StartError → Type 0
+IsStoreRefusal limit file DiskFault = Unit {0}
+IsStoreRefusal limit file (NotAJournal offset) = IsWrongAt limit file offset ⊎ IsDamagedAt limit file offset
+IsStoreRefusal limit file Memory = Unit {0}
+
+-- a fault is answered only where the count of faults rose
+pub record RefusedBy (before now : ℕ) (error : StartError) : Type 0 where
+  pub later : before ≤ now
+  pub failed : error ≡ DiskFault → Rose before now
