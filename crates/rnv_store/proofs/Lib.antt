@@ -6,4 +6,5 @@ pub mod Preparing
 pub mod Revisions
 pub mod Starting
 pub mod Turns
+pub mod Uses
 pub mod Writes

@@ -7,6 +7,8 @@ mod journal_forge;
 mod start;
 mod store;
 mod stored;
+#[cfg(test)]
+mod tests;
 mod texts;
 
 pub use forge::{Forge, ForgePrepareError, WriteError};

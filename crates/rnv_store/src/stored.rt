@@ -85,8 +85,7 @@ pub(crate) fn names_of(alloc: Global, repos: &[Repo]) -> Result<List<Text>, Allo
 // Bytes are below 256.
 fn are_bytes(bytes: &[u8])
     ensures { All (λ b. b < 256) bytes.now }
-{
-}
+{}
 
 // The byte string that spells an orderly write.
 fn payload_of(alloc: Global, write: &Write) -> Result<Bytes, AllocError>

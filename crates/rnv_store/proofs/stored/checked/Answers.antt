@@ -13,7 +13,7 @@ returns-in-Err-Refused-clause-refused c n cause e =
     let first = c.args.store in
     let list = c.args.list.now in
     let refused = checked_refused first list c.loop-index.index c.loop-index.store _ c.loop-index.invariant c.index-list-index.result c.loop-index-test.true (sym c.index-list-index.is) c.in-Err-Refused.cause
-        (c.in-Err-Refused.ensures.refused c.in-Err-Refused.cause (ap Err c.in-Err-Refused.field-0-is)) in
+    (c.in-Err-Refused.ensures.refused c.in-Err-Refused.cause (ap Err c.in-Err-Refused.field-0-is)) in
     subst (λ (k : ℕ). IsFirstRefused list first k cause) i (subst (λ (r : Refusal). IsFirstRefused list first c.loop-index.index r) same refused)
 
 pub loop-index-preserved : goal.loop-index-preserved

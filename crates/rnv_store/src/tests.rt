@@ -1,0 +1,191 @@
+ghost use Rattle.std.specs.Prelude.{◌≡◌, ◌↔◌, All, IfOk, IsTrue, OnOk};
+ghost use Rattle.rnv_forge.specs.WellFormed.{IsOrderly};
+
+use crate::{Forge, ForgePrepareError, JournalForge, WriteError};
+use rnv_base::{Bytes, List, Text};
+use rnv_disk::{Content, FileNo, MemDisk};
+use rnv_forge::{FileChange, Refusal, Write, is_orderly};
+use rnv_journal::StartError;
+use std::alloc::{AllocError, Global};
+use std::convert::{AsSlice, AsStr};
+use std::test::Fail;
+
+// The head of a journal, and the gate of one without entries.
+const EMPTY: &[u8] = b"\x01RNVFORGE\x00\x00\x00\x01\x00";
+
+// A disk whose file `Zero` holds these bytes, and whose calls with these numbers fail.
+fn disk(alloc: Global, zero: &[u8], failing: &[u64]) -> Result<MemDisk, Fail> {
+    let content = Content::new(Vec::from_slice(alloc, zero)?, Vec::new(alloc));
+    let failing = List::new(Vec::from_slice(alloc, failing)?);
+    Ok(MemDisk::new(alloc, content, failing)?)
+}
+
+// A forge over a disk with at most so many bytes.
+fn started(alloc: Global, disk: MemDisk, limit: u64) -> Result<JournalForge<MemDisk>, Fail>
+    ensures { IfOk result ⟦<JournalForge<MemDisk> as Forge>⟧.holds }
+{
+    if limit < 14 || limit > 4_294_967_295 {
+        return Err("no such limit".into());
+    }
+    match JournalForge::start_within(alloc, disk, limit) {
+        Ok(forge) => Ok(forge),
+        Err(_) => Err("not started".into()),
+    }
+}
+
+fn set_base(alloc: Global, repo: &str, new: &[u8]) -> Result<Write, AllocError> {
+    let mut changes = List::empty(alloc);
+    changes.push(FileChange {
+        path: Text::copied(alloc, "package.json")?,
+        bytes: Some(Bytes::new(Vec::from_slice(alloc, new)?)),
+    })?;
+    Ok(Write::SetBase {
+        repo: Text::copied(alloc, repo)?,
+        changes,
+    })
+}
+
+fn finish(alloc: Global, repo: &str) -> Result<Write, AllocError> {
+    Ok(Write::Finish {
+        repo: Text::copied(alloc, repo)?,
+        page: None,
+    })
+}
+
+// The first base of `a/b`, and the end of a run of a repository.
+fn two(alloc: Global, repo: &str) -> Result<List<Write>, AllocError> {
+    let mut list = List::empty(alloc);
+    list.push(set_base(alloc, "a/b", b"{}")?)?;
+    list.push(finish(alloc, repo)?)?;
+    Ok(list)
+}
+
+// A base of a repository.
+fn one(alloc: Global, repo: &str, new: &[u8]) -> Result<List<Write>, AllocError> {
+    let mut list = List::empty(alloc);
+    list.push(set_base(alloc, repo, new)?)?;
+    Ok(list)
+}
+
+fn are_orderly(list: &[Write]) -> bool
+    ensures { IsTrue result ↔ All IsOrderly list.now }
+{
+    list.iter().all(|write| is_orderly(write))
+}
+
+// Prepares orderly writes.
+fn prepare<F: Forge>(
+    forge: &mut F,
+    alloc: Global,
+    list: List<Write>,
+) -> Result<Result<(), ForgePrepareError>, Fail>
+    requires { F.holds forge.old }
+    ensures holds { F.holds forge.new }
+    ensures list { IfOk result (λ answer. OnOk answer (F.prepared forge.new ≡ list)) }
+{
+    if are_orderly(list.as_slice()) {
+        Ok(forge.prepare(alloc, list))
+    } else {
+        Err("not orderly".into())
+    }
+}
+
+// Prepares a write and does it.
+fn write<F: Forge>(
+    forge: &mut F,
+    alloc: Global,
+    repo: &str,
+    new: &[u8],
+) -> Result<Result<(), WriteError>, Fail>
+    requires { F.holds forge.old }
+    ensures { F.holds forge.new }
+{
+    let list = one(alloc, repo, new)?;
+    if list.len() != 1 {
+        return Err("not one write".into());
+    }
+    match prepare(forge, alloc, list)? {
+        Ok(()) => Ok(forge.write_next()),
+        Err(_) => Err("not prepared".into()),
+    }
+}
+
+#[test]
+fn writes_stand_after_a_start(rt: HostRuntime) -> Result<(), Fail> {
+    let alloc = rt.alloc();
+    let mut forge = started(alloc, disk(alloc, b"", &[])?, 1000)?;
+    assert_eq!(rt; write(&mut forge, alloc, "c/d", b"{}")?, Ok(()));
+    assert_eq!(rt; write(&mut forge, alloc, "a/b", b"{ }")?, Ok(()));
+    assert_eq!(rt; write(&mut forge, alloc, "a/b", b"{}")?, Ok(()));
+    let disk = forge.into_disk();
+    let payload =
+        b"\x01\x00\x00\x00\x03a/b\x00\x00\x00\x01\x00\x00\x00\x0cpackage.json\x01\x00\x00\x00\x02{}\x00";
+    assert!(rt; disk.part(FileNo::Zero).ends_with(payload));
+    let Ok(forge) = JournalForge::start(alloc, disk) else {
+        return Err("not started again".into());
+    };
+    let names = forge.names(alloc)?;
+    assert_eq!(rt; names.len(), 2);
+    let repo = forge
+        .repo(alloc, &names.as_slice()[0])?
+        .ok_or("no repository")?;
+    assert_eq!(rt; repo.name.as_str(), "a/b");
+    assert_eq!(rt; repo.revision, 1);
+    Ok(())
+}
+
+// What a start answers to these bytes.
+fn refused(alloc: Global, zero: &[u8], failing: &[u64]) -> Result<Option<StartError>, Fail> {
+    match JournalForge::start(alloc, disk(alloc, zero, failing)?) {
+        Ok(_) => Ok(None),
+        Err(refused) => Ok(Some(refused.error)),
+    }
+}
+
+#[test]
+fn starts_that_are_refused(rt: HostRuntime) -> Result<(), Fail> {
+    let alloc = rt.alloc();
+    // A whole entry that is no write.
+    let entry = b"\x01RNVFORGE\x00\x00\x00\x01\x01\x00\x00\x00\x01M\x00";
+    let no_write = Some(StartError::NotAJournal { offset: 13 });
+    assert_eq!(rt; refused(alloc, entry, &[])?, no_write);
+    let no_head = Some(StartError::NotAJournal { offset: 0 });
+    assert_eq!(rt; refused(alloc, b"another file", &[])?, no_head);
+    assert_eq!(rt; refused(alloc, EMPTY, &[0])?, Some(StartError::DiskFault));
+    Ok(())
+}
+
+#[test]
+fn writes_that_are_refused(rt: HostRuntime) -> Result<(), Fail> {
+    let alloc = rt.alloc();
+    let mut forge = started(alloc, disk(alloc, EMPTY, &[])?, 60)?;
+    let unknown = ForgePrepareError::Refused {
+        index: 1,
+        cause: Refusal::UnknownRepo,
+    };
+    assert_eq!(rt;
+        prepare(&mut forge, alloc, two(alloc, "c/d")?)?,
+        Err(unknown)
+    );
+    // Without entries 14, and 5 more and the payload for each: 35 and 9 bytes.
+    let full = ForgePrepareError::Full {
+        length: 68,
+        limit: 60,
+    };
+    assert_eq!(rt; prepare(&mut forge, alloc, two(alloc, "a/b")?)?, Err(full));
+    Ok(())
+}
+
+#[test]
+fn a_fault_closes_the_forge(rt: HostRuntime) -> Result<(), Fail> {
+    let alloc = rt.alloc();
+    // A start of a made journal makes two calls.
+    let mut forge = started(alloc, disk(alloc, EMPTY, &[2])?, 1000)?;
+    assert_eq!(rt;
+        write(&mut forge, alloc, "a/b", b"{}")?,
+        Err(WriteError::DiskFault)
+    );
+    let answer = prepare(&mut forge, alloc, one(alloc, "a/b", b"{}")?)?;
+    assert_eq!(rt; answer, Err(ForgePrepareError::Closed));
+    Ok(())
+}
