@@ -1,5 +1,5 @@
 -- Writes that are permitted in their turn, as far as a loop has come.
-use Rattle.std.proofs.Common.{◌≡◌, ◌≤◌, ◌<◌, ◌+◌, ◌-◌, ℕ, zero, suc, List, [], ◌∷◌, ◌++◌, length, get_or, map, take, drop, Option, Some, refl, sym, ap, subst, ◌∙◌, arith, append-nil}
+use Rattle.std.proofs.Common.{◌≡◌, ◌≤◌, ◌<◌, ◌+◌, ◌-◌, ℕ, zero, suc, List, [], ◌∷◌, ◌++◌, length, get_or, take, drop, Option, Some, refl, sym, ap, subst, ◌∙◌, arith}
 use Rattle.std.specs.List.{AllByRecursion, cons_option}
 use Rattle.rnv_forge.specs.declared.refusal.Refusal.{Refusal}
 use Rattle.rnv_forge.specs.declared.repo.Repo.{Repo}
@@ -7,7 +7,7 @@ use Rattle.rnv_forge.specs.declared.write.Write.{Write}
 use Rattle.rnv_forge.specs.Reading.{whole_write}
 use Rattle.rnv_forge.specs.Spelling.{spelling}
 use Rattle.rnv_forge.specs.Store.{ArePermitted, IsPermitted, IsSoundStore, after, applied, refusal}
-use Rattle.rnv_forge.specs.WellFormed.{IsOrderly, IsWellFormed}
+use Rattle.rnv_forge.specs.WellFormed.{IsWellFormed}
 use Rattle.rnv_forge.proofs.Sound.{sound_store}
 use Rattle.rnv_store.specs.Laws.{spelled_both}
 use Rattle.rnv_store.specs.Refused.{IsFirstRefused}

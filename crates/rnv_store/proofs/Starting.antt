@@ -1,5 +1,5 @@
 -- What a damaged store answers.
-use Rattle.std.proofs.Common.{◌≡◌, ◌<◌, ℕ, List, ◌∷◌, ◌++◌, length, map, Result, Ok, Err, inr, ap, arith, length-append}
+use Rattle.std.proofs.Common.{◌<◌, ℕ, List, ◌∷◌, length, map, Result, Ok, Err, inr, ap, arith, length-append}
 use Rattle.std.specs.Prelude.{IfErr}
 use Rattle.rnv_forge.specs.Spelling.{spelling}
 use Rattle.rnv_journal.specs.Reading.{ReadsAs}

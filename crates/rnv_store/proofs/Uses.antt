@@ -1,5 +1,5 @@
 -- For the layers above, which name lists of writes alone: how what is said of stops goes on.
-use Rattle.std.proofs.Common.{◌≡◌, ℕ, List, map, refl}
+use Rattle.std.proofs.Common.{ℕ, List, map, refl}
 use Rattle.std.specs.List.{AllByRecursion}
 use Rattle.rnv_disk.specs.Stops.{Past}
 use Rattle.rnv_forge.specs.declared.write.Write.{Write}

@@ -1,15 +1,12 @@
 -- Lists of writes, and the byte strings that spell them.
-use Rattle.std.proofs.Common.{◌≡◌, ℕ, ◌+◌, ◌*◌, ◌≤◌, List, [], ◌∷◌, ◌++◌, length, map, refl, sym, ◌∙◌, ap, subst, arith}
-use Rattle.std.specs.List.{AllByRecursion, filter_map}
-use Rattle.std.proofs.lemmas.List.{map-append}
+use Rattle.std.proofs.Common.{◌≡◌, ℕ, ◌+◌, ◌*◌, ◌≤◌, List, [], ◌∷◌, ◌++◌, length, refl, arith}
+use Rattle.std.specs.List.{AllByRecursion}
 use Rattle.std.proofs.lemmas.List.Elements.{filter_map-append}
 use Rattle.rnv_forge.specs.declared.repo.Repo.{Repo}
 use Rattle.rnv_forge.specs.declared.write.Write.{Write}
 use Rattle.rnv_forge.specs.Reading.{whole_write}
-use Rattle.rnv_forge.specs.Spelling.{spelling}
-use Rattle.rnv_forge.specs.Store.{ArePermitted, IsPermitted, after, applied}
-use Rattle.rnv_forge.specs.WellFormed.{IsWellFormed}
-use Rattle.rnv_journal.specs.File.{end_of, counted}
+use Rattle.rnv_forge.specs.Store.{ArePermitted, after, applied}
+use Rattle.rnv_journal.specs.File.{counted}
 use Rattle.rnv_store.specs.Writes.{writes_in}
 
 pub writes_append : (ps qs : List (List ℕ)) → writes_in (ps ++ qs) ≡ writes_in ps ++ writes_in qs

@@ -1,6 +1,4 @@
-use Rattle.std.proofs.Common.{◌≡◌, Err, Result, ap, ◌∙◌}
-use Rattle.std.specs.Prelude.{IsErrOf}
-use Rattle.rnv_journal.specs.declared.journal.PrepareError.{PrepareError}
+use Rattle.std.proofs.Common.{◌≡◌, Err, ap, ◌∙◌}
 use Rattle.rnv_journal.specs.declared.journal.PrepareError.TheVariants.{Full as JournalFull}
 use Rattle.rnv_store.proofs.journal_forge.prepare_payloads.Goals as goal
 

@@ -1,5 +1,4 @@
 use Rattle.std.proofs.Common.{◌≤◌, length, ap, arith}
-use Rattle.rnv_journal.specs.Found.{strings}
 use Rattle.rnv_store.proofs.Folding.{strings_length}
 use Rattle.rnv_store.proofs.Preparing.{few}
 use Rattle.rnv_store.proofs.Writes.{all_each}

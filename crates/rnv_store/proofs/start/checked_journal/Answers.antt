@@ -1,4 +1,4 @@
-use Rattle.std.proofs.Common.{◌≤◌, length, ap, subst, Err, arith}
+use Rattle.std.proofs.Common.{◌≤◌, length, ap, Err, arith}
 use Rattle.rnv_journal.specs.Found.{strings}
 use Rattle.rnv_store.proofs.Folding.{strings_length}
 use Rattle.rnv_store.proofs.Preparing.{few}

@@ -1,7 +1,6 @@
-use Rattle.std.proofs.Common.{◌≡◌, List, ℕ, subst}
-use Rattle.rnv_forge.specs.Reading.{whole_write}
+use Rattle.std.proofs.Common.{List, ℕ, subst}
 use Rattle.rnv_forge.proofs.WriteFormats.{are_bytes, whole_again}
-use Rattle.std.specs.Prelude.{Some, All, ◌<◌}
+use Rattle.std.specs.Prelude.{All, ◌<◌}
 use Rattle.rnv_store.proofs.stored.payload_of.Goals as goal
 
 pub returns-clause-read : goal.returns-clause-read

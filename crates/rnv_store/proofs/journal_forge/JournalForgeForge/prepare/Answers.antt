@@ -1,4 +1,4 @@
-use Rattle.std.proofs.Common.{◌≡◌, ◌≤◌, ◌++◌, List, sym, subst, ap, ◌∙◌}
+use Rattle.std.proofs.Common.{◌≤◌, ◌++◌, List, sym, subst}
 use Rattle.rnv_forge.specs.declared.write.Write.{Write}
 use Rattle.rnv_journal.specs.Held.{Held}
 use Rattle.rnv_store.specs.Held.{HoldsWrites}

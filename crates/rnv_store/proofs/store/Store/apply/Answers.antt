@@ -1,4 +1,4 @@
-use Rattle.std.proofs.Common.{◌≡◌, ◌<◌, ℕ, List, Option, Some, None, Result, Ok, Err, sym, ap, subst, ◌∙◌}
+use Rattle.std.proofs.Common.{◌≡◌, ◌<◌, ℕ, List, Option, Err, sym, ap, subst, ◌∙◌}
 use Rattle.std.specs.Prelude.{IfSome}
 use Rattle.std.specs.List.{AllByRecursion}
 use Rattle.std.specs.Map.{values_of}
@@ -8,7 +8,6 @@ use Rattle.rnv_forge.specs.declared.repo.Repo.{Repo}
 use Rattle.rnv_forge.specs.Applying.{Applies}
 use Rattle.rnv_forge.specs.Store.{IsSound, applied_to, known, refusal_to}
 use Rattle.rnv_forge.specs.WellFormed.{repo_of}
-use Rattle.rnv_store.specs.ByName.{IsByName}
 use Rattle.rnv_store.proofs.ByName.{Entry, IsNamed, applied_name, known_all, known_is, name_is, named_taken, put_whole}
 use Rattle.rnv_forge.specs.Named.{put}
 use Rattle.rnv_store.proofs.store.Store.apply.Goals as goal
@@ -54,14 +53,14 @@ invariant_of-self-in-Ok c = record {
 pub returns-in_ok-insert-in-Ok-clause-permitted : goal.returns-in_ok-insert-in-Ok-clause-permitted
 returns-in_ok-insert-in-Ok-clause-permitted c =
     let is = found _ _ c.self.inside.repos.entries c.args.self.now c.remove-known.result (c.remove-known.ensures.value ∙ known_is _ _ c.self.invariant.named) c.repo_of.ensures c.self.view_is in
-    sym (ap (λ (o : Option Repo). refusal_to c.args.write.now o) is) ∙ c.in-Ok.ensures.0
+    sym (ap (λ (o : Option Repo). refusal_to c.args.write.now o) is) ∙ c.in-Ok.ensures.applied.0
 
 pub returns-in_ok-insert-in-Ok-clause-ok : goal.returns-in_ok-insert-in-Ok-clause-ok
 returns-in_ok-insert-in-Ok-clause-ok c =
     let w = c.args.write.now in
     let store = c.args.self.now in
     let is = found _ _ c.self.inside.repos.entries c.args.self.now c.remove-known.result (c.remove-known.ensures.value ∙ known_is _ _ c.self.invariant.named) c.repo_of.ensures c.self.view_is in
-    let repo_is : c.in-Ok.repo ≡ applied_to w (known (repo_of w) store) = c.in-Ok.ensures.1 ∙ ap (λ (o : Option Repo). applied_to w o) is in
+    let repo_is : c.in-Ok.repo ≡ applied_to w (known (repo_of w) store) = c.in-Ok.ensures.applied.1 ∙ ap (λ (o : Option Repo). applied_to w o) is in
     let same : c.repo_of.result.now ≡ c.in-Ok.repo.name = c.repo_of.ensures ∙ sym (ap name_is repo_is ∙ applied_name w store) in
     (put_whole _ _ _ _ _ _ c.self.invariant c.remove-known.ensures.entries c.in_ok-insert-in-Ok.ensures.entries c.in_ok-share-in-Ok.ensures).1 same
     ∙ ap (λ (r : Repo). put name_is r (values_of c.self.inside.repos.entries)) repo_is
@@ -72,4 +71,4 @@ returns-in-Err-clause-refused c cause e =
     let is = found _ _ c.self.inside.repos.entries c.args.self.now c.remove-known.result (c.remove-known.ensures.value ∙ known_is _ _ c.self.invariant.named) c.repo_of.ensures c.self.view_is in
     let k : c.in-Err.error ≡ Refused cause = cc in
     sym (ap (λ (o : Option Repo). refusal_to c.args.write.now o) is)
-    ∙ subst (λ (x : ApplyError). Applies (Err x) (refusal_to c.args.write.now c.remove-known.result) (applied_to c.args.write.now c.remove-known.result)) k c.in-Err.ensures
+    ∙ subst (λ (x : ApplyError). Applies (Err x) (refusal_to c.args.write.now c.remove-known.result) (applied_to c.args.write.now c.remove-known.result)) k c.in-Err.ensures.applied

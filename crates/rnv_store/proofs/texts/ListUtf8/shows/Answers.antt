@@ -1,4 +1,4 @@
-use Rattle.std.proofs.Common.{◌≡◌, ◌<◌, length, get_or, take, rules, arith, add-one, subst}
+use Rattle.std.proofs.Common.{◌≡◌, get_or, rules, arith, add-one, subst}
 use Rattle.std.specs.List.{AllByRecursion}
 use Rattle.rnv_store.proofs.Each.{all_none, all_more, all_whole}
 use Rattle.rnv_store.proofs.texts.ListUtf8.shows.Goals as goal
