@@ -5,9 +5,9 @@ ghost use Rattle.rnv_forge.specs.Applying.{Applies};
 ghost use Rattle.rnv_forge.specs.Base.{path_of};
 ghost use Rattle.rnv_forge.specs.Merging.{change_path};
 ghost use Rattle.rnv_forge.specs.Named.{IsRisingBy};
-ghost use Rattle.rnv_forge.specs.Store.{IsSound, applied_in, applied_to, begun, refusal_in, refusal_to, refusal_unknown, refused_branch, refused_if};
+ghost use Rattle.rnv_forge.specs.Store.{IsSound, applied_in, applied_to, begun, name_of, refusal_in, refusal_to, refusal_unknown, refused_branch, refused_if};
 ghost use Rattle.rnv_forge.specs.declared.refusal.Refusal.TheVariants.{NumberTaken};
-ghost use Rattle.rnv_forge.specs.Requests.{next_number};
+ghost use Rattle.rnv_forge.specs.Requests.{AreApart, next_number};
 ghost use Rattle.rnv_forge.specs.WellFormed.{HasOrder, IsOrderly};
 
 use crate::base::{is_over, merged};
@@ -70,24 +70,28 @@ fn set_base(alloc: Global, repo: Repo, changes: &List<FileChange>) -> Result<Rep
 }
 
 fn put(alloc: Global, repo: Repo, branch: &Branch) -> Result<Repo, ApplyError>
+    requires { IsRisingBy name_of repo.branches }
     ensures { Applies result None (applied_in (PutBranch repo.name branch.now) repo) }
 {
     let branches = put_branch(alloc, repo.branches, branch)?;
     Ok(Repo { branches, ..repo })
 }
 
-fn drop(alloc: Global, repo: Repo, name: &Text) -> Result<Repo, ApplyError>
+fn drop(repo: Repo, name: &Text) -> Result<Repo, ApplyError>
+    requires { IsRisingBy name_of repo.branches }
     ensures { Applies result (refusal_in (DropBranch repo.name name.now) repo) (applied_in (DropBranch repo.name name.now) repo) }
 {
     if let Some(cause) = refused_branch(&repo, name) {
         return Err(ApplyError::Refused(cause));
     }
-    let branches = drop_branch(alloc, repo.branches, name)?;
+    let branches = drop_branch(repo.branches, name);
     Ok(Repo { branches, ..repo })
 }
 
 // Why a request with this number may not be opened on this branch.
 fn refused_open(repo: &Repo, number: u32, branch: &Text) -> Option<Refusal>
+    requires branches { IsRisingBy name_of repo.now.branches }
+    requires requests { AreApart repo.now.requests }
     ensures { result ≡ refused_branch branch.now repo.now (refused_if (not (nat_eq number (next_number repo.now.requests))) (NumberTaken number) None) }
 {
     if let Some(cause) = refused_branch(repo, branch) {
@@ -108,6 +112,8 @@ fn open(
     texts: &Texts,
     made_at: u64,
 ) -> Result<Repo, ApplyError>
+    requires branches { IsRisingBy name_of repo.branches }
+    requires requests { AreApart repo.requests }
     ensures { Applies result (refusal_in (OpenRequest repo.name number branch.now texts.now.updates.now texts.now.title.now texts.now.body.now texts.now.labels.now made_at) repo)
         (applied_in (OpenRequest repo.name number branch.now texts.now.updates.now texts.now.title.now texts.now.body.now texts.now.labels.now made_at) repo) }
 {
@@ -130,6 +136,7 @@ fn open(
 }
 
 fn edit(alloc: Global, repo: Repo, number: u32, texts: &Texts) -> Result<Repo, ApplyError>
+    requires { AreApart repo.requests }
     ensures { Applies result (refusal_in (EditRequest repo.name number texts.now.updates.now texts.now.title.now texts.now.body.now texts.now.labels.now) repo)
         (applied_in (EditRequest repo.name number texts.now.updates.now texts.now.title.now texts.now.body.now texts.now.labels.now) repo) }
 {
@@ -141,6 +148,7 @@ fn edit(alloc: Global, repo: Repo, number: u32, texts: &Texts) -> Result<Repo, A
 }
 
 fn autoclose(alloc: Global, repo: Repo, number: u32) -> Result<Repo, ApplyError>
+    requires { AreApart repo.requests }
     ensures { Applies result (refusal_in (Autoclose repo.name number) repo) (applied_in (Autoclose repo.name number) repo) }
 {
     if !is_live_number(repo.requests.as_slice(), number) {
@@ -202,7 +210,7 @@ fn apply_new(alloc: Global, write: &Write) -> Result<Repo, ApplyError>
 }
 
 fn apply_known(alloc: Global, repo: Repo, write: &Write) -> Result<Repo, ApplyError>
-    requires files { IsRisingBy path_of repo.files }
+    requires sound { IsSound repo }
     requires revision { repo.revision < 4294967295 }
     requires order { HasOrder write.now }
     ensures { Applies result (refusal_in write.now repo) (applied_in write.now repo) }
@@ -210,7 +218,7 @@ fn apply_known(alloc: Global, repo: Repo, write: &Write) -> Result<Repo, ApplyEr
     match write {
         Write::SetBase { changes, .. } => set_base(alloc, repo, changes),
         Write::PutBranch { branch, .. } => put(alloc, repo, branch),
-        Write::DropBranch { name, .. } => drop(alloc, repo, name),
+        Write::DropBranch { name, .. } => drop(repo, name),
         Write::OpenRequest {
             number,
             branch,

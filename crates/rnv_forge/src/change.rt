@@ -1,13 +1,9 @@
-ghost use Rattle.std.specs.Prelude.{◌≡◌, ◌<◌, ◌≤◌, true, length, slice_index_or, IfOk};
-ghost use Rattle.std.specs.List.{prefix_len};
-ghost use Rattle.std.specs.Ordering.{is_lt, nat_cmp};
-ghost use Rattle.std.specs.Cmp.Lexicographic.{slice_cmp};
-ghost use Rattle.std.specs.Str.{bytes_eq};
-ghost use Rattle.rnv_forge.specs.declared.branch.Branch.{Branch};
-ghost use Rattle.rnv_forge.specs.Named.{put, without};
-ghost use Rattle.rnv_forge.specs.Requests.{at_number, autoclosed, autoclosed_title, edited};
+ghost use Rattle.std.specs.Prelude.{◌≡◌, IfOk, OnOk};
+ghost use Rattle.rnv_forge.specs.Named.{IsRisingBy, put, without};
+ghost use Rattle.rnv_forge.specs.Requests.{AreApart, at_number, autoclosed, autoclosed_title, edited};
 ghost use Rattle.rnv_forge.specs.Store.{name_of};
 
+use crate::lookup::{is_at, is_at_number, place_of, place_of_number};
 use crate::{Branch, Key, Request, RequestState};
 use rnv_base::{List, Share, Text};
 use std::alloc::{AllocError, Global};
@@ -19,11 +15,12 @@ pub(crate) fn put_branch(
     branches: List<Branch>,
     branch: &Branch,
 ) -> Result<List<Branch>, AllocError>
+    requires { IsRisingBy name_of branches }
     ensures { IfOk result (λ after. after ≡ put name_of branch.now branches) }
 {
     let copy = branch.share(alloc)?;
     let mut branches = branches.into_inner();
-    let at = count_below(branches.as_slice(), &branch.name);
+    let at = place_of(branches.as_slice(), &branch.name);
     if is_at(branches.as_slice(), at, &branch.name) {
         branches[at] = copy;
         return Ok(List::new(branches));
@@ -32,47 +29,18 @@ pub(crate) fn put_branch(
     Ok(List::new(branches))
 }
 
-// Whether the branch at this place has this name.
-fn is_at(branches: &[Branch], at: usize, name: &Text) -> bool
-    ensures within { result ≡ true → at < length branches.now }
-    ensures same { (branch : Branch) → at < length branches.now → bytes_eq (slice_index_or branches.now at branch).name name.now ≡ result }
-{
-    match branches.get(at) {
-        Some(branch) => branch.name == *name,
-        None => false,
-    }
-}
-
-// How many branches from the front on have names below this one.
-fn count_below(branches: &[Branch], name: &Text) -> usize
-    ensures count { result ≡ prefix_len (λ b. is_lt (slice_cmp nat_cmp b.name name.now)) branches.now }
-    ensures within { result ≤ length branches.now }
-{
-    let mut count = 0;
-    for branch in branches {
-        if branch.name >= *name {
-            return count;
-        }
-        count += 1;
-    }
-    count
-}
-
 // The branches without the one of this name.
-pub(crate) fn drop_branch(
-    alloc: Global,
-    branches: List<Branch>,
-    name: &Text,
-) -> Result<List<Branch>, AllocError>
-    ensures { IfOk result (λ after. after ≡ without name_of name.now branches) }
+pub(crate) fn drop_branch(branches: List<Branch>, name: &Text) -> List<Branch>
+    requires { IsRisingBy name_of branches }
+    ensures { result ≡ without name_of name.now branches }
 {
-    let mut after = List::empty(alloc);
-    for branch in branches.into_inner() {
-        if branch.name != *name {
-            after.push(branch)?;
-        }
+    let mut branches = branches.into_inner();
+    let at = place_of(branches.as_slice(), name);
+    if !is_at(branches.as_slice(), at, name) {
+        return List::new(branches);
     }
-    Ok(after)
+    branches.remove(at);
+    List::new(branches)
 }
 
 // What an edit or the end of a run makes of a request.
@@ -81,8 +49,8 @@ pub(crate) trait Change {
 
     ghost makes: { Self → Request → Request };
 
-    fn make(&self, alloc: Global, request: Request) -> Result<Request, AllocError>
-        ensures { IfOk result (λ made. made ≡ makes self.now request) };
+    fn change(&self, alloc: Global, request: &mut Request) -> Result<(), AllocError>
+        ensures { OnOk result (request.new ≡ makes self.now request.old) };
 }
 
 // The texts of a request.
@@ -97,17 +65,12 @@ pub(crate) struct Texts<'a> {
 impl Change for Texts<'_> {
     ghost makes = { λ t. edited t.updates.now t.title.now t.body.now t.labels.now };
 
-    fn make(&self, alloc: Global, request: Request) -> Result<Request, AllocError> {
-        Ok(Request {
-            number: request.number,
-            branch: request.branch,
-            updates: self.updates.share(alloc)?,
-            title: self.title.share(alloc)?,
-            body: self.body.share(alloc)?,
-            labels: self.labels.share(alloc)?,
-            made_at: request.made_at,
-            state: request.state,
-        })
+    fn change(&self, alloc: Global, request: &mut Request) -> Result<(), AllocError> {
+        request.updates = self.updates.share(alloc)?;
+        request.title = self.title.share(alloc)?;
+        request.body = self.body.share(alloc)?;
+        request.labels = self.labels.share(alloc)?;
+        Ok(())
     }
 }
 
@@ -117,25 +80,18 @@ pub(crate) struct Autoclosing;
 impl Change for Autoclosing {
     ghost makes = { λ _. autoclosed };
 
-    fn make(&self, _alloc: Global, request: Request) -> Result<Request, AllocError> {
-        Ok(Request {
-            number: request.number,
-            branch: request.branch,
-            updates: request.updates,
-            title: autoclosed_title(request.title)?,
-            body: request.body,
-            labels: request.labels,
-            made_at: request.made_at,
-            state: RequestState::Autoclosed,
-        })
+    fn change(&self, alloc: Global, request: &mut Request) -> Result<(), AllocError> {
+        request.title = autoclosed_title(alloc, &request.title)?;
+        request.state = RequestState::Autoclosed;
+        Ok(())
     }
 }
 
 #[tactic(auto, unfolding(crate::specs::Requests::autoclosed_title))]
-fn autoclosed_title(title: Text) -> Result<Text, AllocError>
-    ensures { IfOk result (λ after. after ≡ autoclosed_title title) }
+fn autoclosed_title(alloc: Global, title: &Text) -> Result<Text, AllocError>
+    ensures { IfOk result (λ after. after ≡ autoclosed_title title.now) }
 {
-    let mut title = title.into_inner();
+    let mut title = title.share(alloc)?.into_inner();
     title.push_str(" - autoclosed")?;
     Ok(Text::new(title))
 }
@@ -147,15 +103,14 @@ pub(crate) fn change_request<C: Change>(
     number: u32,
     change: &C,
 ) -> Result<List<Request>, AllocError>
+    requires { AreApart requests }
     ensures { IfOk result (λ after. after ≡ at_number number (C.makes change.now) requests) }
 {
-    let mut after = List::empty(alloc);
-    for request in requests.into_inner() {
-        if request.number == number {
-            after.push(change.make(alloc, request)?)?;
-        } else {
-            after.push(request)?;
-        }
+    let mut requests = requests.into_inner();
+    let at = place_of_number(requests.as_slice(), number);
+    if !is_at_number(requests.as_slice(), at, number) {
+        return Ok(List::new(requests));
     }
-    Ok(after)
+    change.change(alloc, &mut requests[at])?;
+    Ok(List::new(requests))
 }
