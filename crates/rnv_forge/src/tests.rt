@@ -1,6 +1,9 @@
+ghost use Rattle.std.specs.Prelude.{◌<◌, IfOk, IfSome};
+ghost use Rattle.rnv_forge.specs.Store.{IsSound};
+
 use crate::{
-    ApplyError, Branch, EditedFile, FileChange, Key, Refusal, Write, apply, is_orderly, read_write,
-    spell,
+    ApplyError, Branch, EditedFile, FileChange, Key, Refusal, Repo, Write, apply, is_orderly,
+    read_write, spell,
 };
 use rnv_base::{Bytes, List, Text};
 use std::alloc::{AllocError, Global};
@@ -12,6 +15,13 @@ const DROP: [u8; 26] = [
     3, 0, 0, 0, 3, 97, 47, 98, 0, 0, 0, 14, 114, 101, 110, 111, 118, 97, 116, 101, 47, 120, 45, 49,
     46, 120,
 ];
+
+// A branch with a live request, one without, and a name that no branch has.
+const X: &str = "renovate/x-1.x";
+
+const Y: &str = "renovate/y-1.x";
+
+const Z: &str = "renovate/z-1.x";
 
 fn text(alloc: Global, text: &str) -> Result<Text, AllocError> {
     Text::copied(alloc, text)
@@ -47,14 +57,14 @@ fn set_base(alloc: Global, path: &str, new: Option<&[u8]>) -> Result<Write, Allo
     })
 }
 
-fn put_branch(alloc: Global) -> Result<Write, AllocError> {
+fn put_branch(alloc: Global, name: &str) -> Result<Write, AllocError> {
     let mut files = List::empty(alloc);
     files.push(EditedFile {
         path: text(alloc, "package.json")?,
         bytes: bytes(alloc, b"{}")?,
     })?;
     let branch = Branch {
-        name: text(alloc, "renovate/x-1.x")?,
+        name: text(alloc, name)?,
         revision: 0,
         updates: keys(alloc)?,
         files,
@@ -66,18 +76,18 @@ fn put_branch(alloc: Global) -> Result<Write, AllocError> {
     })
 }
 
-fn drop_branch(alloc: Global) -> Result<Write, AllocError> {
+fn drop_branch(alloc: Global, name: &str) -> Result<Write, AllocError> {
     Ok(Write::DropBranch {
         repo: text(alloc, "a/b")?,
-        name: text(alloc, "renovate/x-1.x")?,
+        name: text(alloc, name)?,
     })
 }
 
-fn open(alloc: Global, number: u32) -> Result<Write, AllocError> {
+fn open(alloc: Global, number: u32, branch: &str) -> Result<Write, AllocError> {
     Ok(Write::OpenRequest {
         repo: text(alloc, "a/b")?,
         number,
-        branch: text(alloc, "renovate/x-1.x")?,
+        branch: text(alloc, branch)?,
         updates: keys(alloc)?,
         title: text(alloc, "Update dependency x to 1.2.3")?,
         body: text(alloc, "x\n")?,
@@ -117,11 +127,11 @@ fn finish(alloc: Global) -> Result<Write, AllocError> {
 fn row(alloc: Global) -> Result<Vec<Write>, AllocError> {
     let mut row = Vec::new(alloc);
     row.push(set_base(alloc, "package.json", Some(b"{ }"))?)?;
-    row.push(put_branch(alloc)?)?;
-    row.push(open(alloc, 1)?)?;
+    row.push(put_branch(alloc, X)?)?;
+    row.push(open(alloc, 1, X)?)?;
     row.push(edit(alloc, 1)?)?;
     row.push(autoclose(alloc, 1)?)?;
-    row.push(drop_branch(alloc)?)?;
+    row.push(drop_branch(alloc, X)?)?;
     row.push(finish(alloc)?)?;
     row.push(set_base(alloc, "package.json", None)?)?;
     Ok(row)
@@ -129,7 +139,7 @@ fn row(alloc: Global) -> Result<Vec<Write>, AllocError> {
 
 #[test]
 fn one_spelling_as_bytes(rt: HostRuntime) -> Result<(), Fail> {
-    let spelled = spell(rt.alloc(), &drop_branch(rt.alloc())?)?;
+    let spelled = spell(rt.alloc(), &drop_branch(rt.alloc(), X)?)?;
     assert_eq!(rt; spelled.as_slice(), DROP.as_slice());
     Ok(())
 }
@@ -163,9 +173,9 @@ fn begins_with_its_base(rt: HostRuntime) -> Result<(), Fail> {
 #[test]
 fn unknown_repositories(rt: HostRuntime) -> Result<(), Fail> {
     for write in [
-        put_branch(rt.alloc())?,
-        drop_branch(rt.alloc())?,
-        open(rt.alloc(), 1)?,
+        put_branch(rt.alloc(), X)?,
+        drop_branch(rt.alloc(), X)?,
+        open(rt.alloc(), 1, X)?,
         edit(rt.alloc(), 1)?,
         autoclose(rt.alloc(), 1)?,
         finish(rt.alloc())?,
@@ -177,6 +187,79 @@ fn unknown_repositories(rt: HostRuntime) -> Result<(), Fail> {
                 Err(ApplyError::Refused(Refusal::UnknownRepo))
             )
         );
+    }
+    Ok(())
+}
+
+// What a write makes of a repository, or of none.
+fn next(alloc: Global, known: Option<Repo>, write: &Write) -> Result<Repo, Fail>
+    requires sound { IfSome known IsSound }
+    requires revision { IfSome known (λ repo. repo.revision < 4294967295) }
+    ensures { IfOk result IsSound }
+{
+    if !is_orderly(write) {
+        return Err("not orderly".into());
+    }
+    match apply(alloc, known, write) {
+        Ok(repo) => Ok(repo),
+        Err(_) => Err("refused".into()),
+    }
+}
+
+// The repository behind a sound one and a write.
+fn behind(alloc: Global, repo: Repo, write: &Write) -> Result<Repo, Fail>
+    requires { IsSound repo }
+    ensures { IfOk result IsSound }
+{
+    if repo.revision == u32::MAX {
+        return Err("no revision is left".into());
+    }
+    next(alloc, Some(repo), write)
+}
+
+// A repository with two branches and a live request on the first.
+fn built(alloc: Global) -> Result<Repo, Fail>
+    ensures { IfOk result IsSound }
+{
+    let base = set_base(alloc, "package.json", Some(b"{}"))?;
+    let repo = next(alloc, None, &base)?;
+    let repo = behind(alloc, repo, &put_branch(alloc, Y)?)?;
+    let repo = behind(alloc, repo, &put_branch(alloc, X)?)?;
+    behind(alloc, repo, &open(alloc, 1, X)?)
+}
+
+// Why a write is refused in that repository.
+fn refusal(alloc: Global, write: &Write) -> Result<Option<Refusal>, Fail> {
+    let repo = built(alloc)?;
+    if repo.revision == u32::MAX || !is_orderly(write) {
+        return Err("not to be applied".into());
+    }
+    match apply(alloc, Some(repo), write) {
+        Ok(_) => Ok(None),
+        Err(ApplyError::Refused(cause)) => Ok(Some(cause)),
+        Err(ApplyError::Memory) => Err("out of memory".into()),
+    }
+}
+
+#[test]
+fn refusals_in_their_order(rt: HostRuntime) -> Result<(), Fail> {
+    let alloc = rt.alloc();
+    let is_live = Refusal::HasLiveRequest { number: 1 };
+    for (write, wanted) in [
+        (
+            set_base(alloc, "package.json", Some(b"{}"))?,
+            Refusal::NoChange,
+        ),
+        (drop_branch(alloc, Z)?, Refusal::NoBranch),
+        (drop_branch(alloc, X)?, is_live),
+        (open(alloc, 1, Z)?, Refusal::NoBranch),
+        (open(alloc, 1, X)?, is_live),
+        (open(alloc, 1, Y)?, Refusal::NumberTaken { number: 1 }),
+        (open(alloc, 3, Y)?, Refusal::NumberTaken { number: 3 }),
+        (edit(alloc, 2)?, Refusal::NotLive { number: 2 }),
+        (autoclose(alloc, 2)?, Refusal::NotLive { number: 2 }),
+    ] {
+        assert_eq!(rt; refusal(alloc, &write)?, Some(wanted));
     }
     Ok(())
 }
