@@ -47,10 +47,10 @@ pub struct StartRefused<D> {
 
 impl<D: Disk> JournalForge<D> {
     /// The forge of a disk, whose journal has at most 268435456 bytes: the writes of its entries,
-    /// applied in order. `DiskFault` only where the disk counted a fault; `NotAJournal` exactly where
+    /// applied in order. `DiskFault` only where the disk counted a fault; `NotAJournal` only where
     /// the bytes are no journal within the limit, with the offset at which they go wrong, or where
-    /// an entry is no permitted write, with the offset of its gate; `Memory`. A refusal hands the
-    /// disk back.
+    /// an entry is no permitted write, with the offset of its gate, and there always, unless a fault
+    /// or want of memory comes first; `Memory`. A refusal hands the disk back.
     pub fn start(alloc: Global, disk: D) -> Result<JournalForge<D>, StartRefused<D>>
         ensures holds { IfOk result ⟦<JournalForge<D> as Forge>⟧.holds }
         // From a disk that has readings a stop at any moment leaves readings that stood on entry.
