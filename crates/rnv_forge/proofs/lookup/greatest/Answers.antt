@@ -1,4 +1,4 @@
-use Rattle.std.proofs.Common.{sym, ◌∙◌}
+use Rattle.std.proofs.Common.{sym}
 use Rattle.rnv_forge.proofs.Numbers.{last_is_greatest, none_is_zero}
 use Rattle.rnv_forge.proofs.lookup.greatest.Goals as goal
 
