@@ -324,7 +324,7 @@ sound_empty name ok = record {
 }
 
 sound_begun : (w : Write) → IsOrderly w → refusal_unknown w ≡ None → IsSound (begun w)
-sound_begun (SetBase name changes) o e = sound_base 0 changes (empty_repo name) (omega arith) o.order (sound_empty name o.name)
+sound_begun (SetBase name changes) o e = sound_base 1 changes (empty_repo name) (omega arith) o.order (sound_empty name o.name)
 sound_begun (PutBranch name branch) o e = absurd cc
 sound_begun (DropBranch name branch) o e = absurd cc
 sound_begun (OpenRequest name number branch updates title body labels made_at) o e = absurd cc

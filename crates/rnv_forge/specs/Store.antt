@@ -60,9 +60,9 @@ empty_repo name = record {
   deliveries = [];
 }
 
--- a new repository begins with its base, at revision 0
+-- a new repository begins with its base, at revision 1
 abbrev pub begun : Write → Repo
-begun (SetBase name changes) = with_base 0 changes (empty_repo name)
+begun (SetBase name changes) = with_base 1 changes (empty_repo name)
 begun (PutBranch name branch) = empty_repo name
 begun (DropBranch name branch) = empty_repo name
 begun (OpenRequest name number branch updates title body labels made_at) = empty_repo name
@@ -103,7 +103,7 @@ refusal_in (Autoclose name number) repo = refused_if (not (is_live_number number
 refusal_in (Finish name page) repo = None
 
 abbrev pub refusal_unknown : Write → Option Refusal
-refusal_unknown (SetBase name changes) = refused_if (is_over (changed 0 changes [])) BaseFull None
+refusal_unknown (SetBase name changes) = refused_if (is_over (changed 1 changes [])) BaseFull None
 refusal_unknown (PutBranch name branch) = Some UnknownRepo
 refusal_unknown (DropBranch name branch) = Some UnknownRepo
 refusal_unknown (OpenRequest name number branch updates title body labels made_at) = Some UnknownRepo

@@ -183,13 +183,13 @@ fn begin(alloc: Global, name: &Text, changes: &List<FileChange>) -> Result<Repo,
     requires { IsRisingBy change_path changes.now }
     ensures { Applies result (refusal_unknown (SetBase name.now changes.now)) (begun (SetBase name.now changes.now)) }
 {
-    let (files, _) = merged(alloc, List::empty(alloc), changes.as_slice(), 0)?;
+    let (files, _) = merged(alloc, List::empty(alloc), changes.as_slice(), 1)?;
     if is_over(files.as_slice()) {
         return Err(ApplyError::Refused(Refusal::BaseFull));
     }
     Ok(Repo {
         name: name.share(alloc)?,
-        revision: 0,
+        revision: 1,
         files,
         branches: List::empty(alloc),
         requests: List::empty(alloc),

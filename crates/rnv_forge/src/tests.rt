@@ -164,7 +164,7 @@ fn begins_with_its_base(rt: HostRuntime) -> Result<(), Fail> {
     let Ok(repo) = apply(rt.alloc(), None, &write) else {
         return Err("refused")?;
     };
-    assert_eq!(rt; repo.revision, 0);
+    assert_eq!(rt; repo.revision, 1);
     assert_eq!(rt; repo.files.len(), 1);
     assert!(rt; repo.due);
     Ok(())

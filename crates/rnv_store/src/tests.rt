@@ -130,7 +130,7 @@ fn writes_stand_after_a_start(rt: HostRuntime) -> Result<(), Fail> {
         .repo(alloc, &names.as_slice()[0])?
         .ok_or("no repository")?;
     assert_eq!(rt; repo.name.as_str(), "a/b");
-    assert_eq!(rt; repo.revision, 1);
+    assert_eq!(rt; repo.revision, 2);
     Ok(())
 }
 
