@@ -27,3 +27,8 @@ greater R (Some best) next = if is_lt (R best next) then next else best
 -- the best after one more element
 abbrev pub better : {K : Type 0} → (K → K → Ordering) → (K → Bool) → Option K → K → Option K
 better R p best next = if p next then Some (greater R best next) else best
+
+-- the best after what may be one more element
+abbrev pub after : {K : Type 0} → (K → K → Ordering) → (K → Bool) → Option K → Option K → Option K
+after R p best None = best
+after R p best (Some next) = better R p best next

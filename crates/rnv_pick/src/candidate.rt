@@ -1,7 +1,5 @@
-ghost use Rattle.std.specs.Prelude.{◌≡◌, ◌++◌, Option, IfOk, OnOk};
-ghost use Rattle.std.specs.List.{filter_map};
-ghost use Rattle.std.specs.Option.{option_to_list};
-ghost use Rattle.rnv_pick.specs.Candidates.{is_stable, is_wanted, candidate_of, candidates};
+ghost use Rattle.std.specs.Prelude.{◌≡◌, Option, IfOk};
+ghost use Rattle.rnv_pick.specs.Candidates.{is_stable, is_wanted, candidate_of};
 
 use rnv_base::{Share, Text};
 use rnv_npm::{NpmVersion, NpmVersioning, VersionError};
@@ -26,39 +24,9 @@ impl Model for Candidate {
     ghost view = { λ c. record { text = c.text; version = c.version } };
 }
 
-/// The candidates among the releases of a package, in their order. Only memory can fail.
-pub fn candidates(
-    alloc: Global,
-    start: &NpmVersion,
-    releases: &[Release],
-) -> Result<Vec<Candidate>, AllocError>
-    ensures { IfOk result (λ found. found.items ≡ candidates start.now releases.now) }
-{
-    let mut found = Vec::new(alloc);
-    for release in releases {
-        add(alloc, start, release, &mut found)?;
-    }
-    Ok(found)
-}
-
-// Puts the release at the end, if it is a candidate.
-fn add(
-    alloc: Global,
-    start: &NpmVersion,
-    release: &Release,
-    found: &mut Vec<Candidate>,
-) -> Result<(), AllocError>
-    ensures { OnOk result (found.new.items ≡ found.old.items ++ option_to_list (candidate_of start.now release.now)) }
-{
-    if let Some(candidate) = as_candidate(alloc, start, release)? {
-        found.push(candidate)?;
-    }
-    Ok(())
-}
-
 // The release as a candidate, if it is one.
 #[tactic(auto, unfolding(crate::specs::Candidates::candidate_of))]
-fn as_candidate(
+pub(crate) fn as_candidate(
     alloc: Global,
     start: &NpmVersion,
     release: &Release,

@@ -12,8 +12,8 @@ mod tests;
 mod update;
 
 pub use bucket::Bucket;
-pub use candidate::{Candidate, candidates};
-pub use choosing::choice;
+pub use candidate::Candidate;
+pub use choosing::{ByBucket, choices};
 pub use dep::Dep;
 pub use picking::{one_list, updates};
 pub use update::Update;

@@ -4,7 +4,7 @@ ghost use Rattle.rnv_pick.specs.Updates.{update_of, AreUpdates, AreChosen, HasOn
 ghost use Rattle.rnv_pick.specs.declared.dep.Dep.{Dep};
 ghost use Rattle.rnv_release.specs.declared.release.Release.{Release};
 
-use crate::{Bucket, Candidate, Dep, Update, candidates, choice};
+use crate::{ByBucket, Candidate, Dep, Update, choices};
 use rnv_base::{List, Share};
 use rnv_npm::{ExactValue, NpmVersioning};
 use rnv_release::Release;
@@ -39,26 +39,23 @@ fn chosen(
 ) -> Result<List<Update>, AllocError>
     ensures { IfOk result (AreChosen dep.now value.now releases.now) }
 {
-    let found = candidates(alloc, &value.version, releases)?;
-    let rest = choice(&value.version, found.as_slice(), Bucket::Rest);
-    let major = choice(&value.version, found.as_slice(), Bucket::Major);
-    both(alloc, dep, value, rest, major)
+    let chosen = choices(alloc, &value.version, releases)?;
+    both(alloc, dep, value, &chosen)
 }
 
-// The updates to two candidates, as far as there are.
+// The updates to the choices, as far as there are.
 #[tactic(auto, using(std::proofs::lemmas::Grind::common_steps, crate::proofs::Taken::map_two))]
 fn both(
     alloc: Global,
     dep: &Dep,
     value: &ExactValue,
-    rest: Option<&Candidate>,
-    major: Option<&Candidate>,
+    chosen: &ByBucket,
 ) -> Result<List<Update>, AllocError>
-    ensures { IfOk result (λ updates. updates ≡ map (update_of dep.now value.now) (option_to_list (option_copied rest.entry) ++ option_to_list (option_copied major.entry))) }
+    ensures { IfOk result (λ updates. updates ≡ map (update_of dep.now value.now) (option_to_list chosen.now.rest ++ option_to_list chosen.now.major)) }
 {
     let mut updates = List::empty(alloc);
-    add(alloc, dep, value, rest, &mut updates)?;
-    add(alloc, dep, value, major, &mut updates)?;
+    add(alloc, dep, value, &chosen.rest, &mut updates)?;
+    add(alloc, dep, value, &chosen.major, &mut updates)?;
     Ok(updates)
 }
 
@@ -67,10 +64,10 @@ fn add(
     alloc: Global,
     dep: &Dep,
     value: &ExactValue,
-    candidate: Option<&Candidate>,
+    candidate: &Option<Candidate>,
     updates: &mut List<Update>,
 ) -> Result<(), AllocError>
-    ensures { OnOk result (updates.new ≡ updates.old ++ map (update_of dep.now value.now) (option_to_list (option_copied candidate.entry))) }
+    ensures { OnOk result (updates.new ≡ updates.old ++ map (update_of dep.now value.now) (option_to_list candidate.now)) }
 {
     if let Some(candidate) = candidate {
         updates.push(update(alloc, dep, value, candidate)?)?;

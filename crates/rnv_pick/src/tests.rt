@@ -1,4 +1,4 @@
-use crate::{Bucket, Dep, Update, candidates, choice, one_list, updates};
+use crate::{Candidate, Dep, Update, choices, one_list, updates};
 use rnv_base::{List, ManagerKind, SourceKind, Text};
 use rnv_npm::NpmVersioning;
 use rnv_release::Release;
@@ -105,17 +105,20 @@ fn has_none_without_a_document(rt: HostRuntime) -> Result<(), Fail> {
     Ok(())
 }
 
+fn is_text(candidate: &Option<Candidate>, text: &str) -> bool {
+    match candidate {
+        Some(candidate) => candidate.text.as_str() == text,
+        None => false,
+    }
+}
+
 #[test]
 fn chooses(rt: HostRuntime) -> Result<(), Fail> {
     let alloc = rt.alloc();
     let start = NpmVersioning.version(alloc, "1.0.0")?;
     let listed = releases(alloc, "1.0.0 1.2.0 1.10.0 latest")?;
-    let found = candidates(alloc, &start, listed.as_slice())?;
-    assert_eq!(rt; found.len(), 2);
-    match choice(&start, found.as_slice(), Bucket::Rest) {
-        Some(best) => assert!(rt; best.text.as_str() == "1.10.0"),
-        None => assert!(rt; false),
-    }
-    assert!(rt; choice(&start, found.as_slice(), Bucket::Major).is_none());
+    let chosen = choices(alloc, &start, listed.as_slice())?;
+    assert!(rt; is_text(&chosen.rest, "1.10.0"));
+    assert!(rt; chosen.major.is_none());
     Ok(())
 }

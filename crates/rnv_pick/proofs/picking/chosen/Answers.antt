@@ -1,5 +1,4 @@
-use Rattle.std.proofs.Common.{◌≡◌, List, Option, ◌∙◌, subst, ap}
-use Rattle.std.specs.Option.{option_copied}
+use Rattle.std.proofs.Common.{◌≡◌, Option, subst, ap}
 use Rattle.std.proofs.lemmas.Result.{IfOk-weaker}
 use Rattle.rnv_npm.specs.Version.{Version}
 use Rattle.rnv_npm.specs.Exact.{Exact}
@@ -13,13 +12,11 @@ pub returns : goal.returns
 returns c =
     let start : c.value.inside.version ≡ c.args.value.now.version = ap (λ (e : Exact). e.version) c.value.view_is in
     let among = λ (bucket : Bucket) (chosen : Option Candidate) (s : Version). IsChosen s (candidates s c.args.releases.now) bucket chosen in
-    let listed = λ (bucket : Bucket) (chosen : Option Candidate) (found : List Candidate). IsChosen c.value.inside.version found bucket chosen in
-    let rest = option_copied c.choice-rest.result in
-    let major = option_copied c.choice-major.result in
+    let chosen = c.in_ok-chosen.chosen in
     IfOk-weaker c.both.result _ _ (λ updates same. record {
-      rest = rest;
-      major = major;
-      rest_chosen = subst (among Rest rest) start (subst (listed Rest rest) (c.as_slice.ensures.value ∙ c.in_ok-found.ensures) c.choice-rest.ensures);
-      major_chosen = subst (among Major major) start (subst (listed Major major) (c.as_slice-2.ensures.value ∙ c.in_ok-found.ensures) c.choice-major.ensures);
+      rest = chosen.rest;
+      major = chosen.major;
+      rest_chosen = subst (among Rest chosen.rest) start c.in_ok-chosen.ensures.rest;
+      major_chosen = subst (among Major chosen.major) start c.in_ok-chosen.ensures.major;
       same = same;
     }) c.both.ensures
