@@ -46,7 +46,7 @@ pub fn expected_finds<'a>(
         → (views p.0.items ≡ expected_finds edits.now ms) × (p.1 ≡ length (edited_file edits.now ms))) }
     ensures err { IfErr result (λ e. e ≡ Memory) }
 {
-    let mut finds = Vec::new(alloc);
+    let mut finds = Vec::with_capacity(alloc, found.len())?;
     let mut rest = edits;
     // So far the file and the edited file are gone through.
     let mut at = 0;

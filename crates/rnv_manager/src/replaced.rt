@@ -1,17 +1,18 @@
-ghost use Rattle.std.specs.Prelude.{◌≡◌, ◌≤◌, All, IsUtf8, IfOk, length};
+ghost use Rattle.std.specs.Prelude.{◌≡◌, ◌≤◌, All, IsUtf8, IfOk, length, map};
 ghost use Rattle.rnv_manager.specs.Finds.{views, AreApart, AreCut};
 ghost use Rattle.rnv_manager.specs.Splice.{spliced};
 ghost use Rattle.rnv_manager.specs.Steps.{spans_of, values_of};
 
-use crate::{Found, Span, splice};
-use rnv_base::{Bytes, Text};
+use crate::splicing::splice_any;
+use crate::{Found, Span};
+use rnv_base::Bytes;
 use std::alloc::{AllocError, Global};
 
 fn spans(alloc: Global, file_len: usize, found: &[Found]) -> Result<Vec<Span>, AllocError>
     requires { AreApart 0 (views found.now) file_len }
     ensures { IfOk result (λ spans. spans.items ≡ spans_of (views found.now)) }
 {
-    let mut spans = Vec::new(alloc);
+    let mut spans = Vec::with_capacity(alloc, found.len())?;
     for f in found {
         let end = f.start + f.value.len();
         spans.push(Span {
@@ -22,22 +23,22 @@ fn spans(alloc: Global, file_len: usize, found: &[Found]) -> Result<Vec<Span>, A
     Ok(spans)
 }
 
-fn copied(alloc: Global, value: &str) -> Result<Text, AllocError>
-    ensures same { IfOk result (λ text. text ≡ value.now) }
-    ensures utf8 { IfOk result (λ text. IsUtf8 text) }
+fn lent<'a>(value: &'a str) -> &'a str
+    ensures same { result.now ≡ value.now }
+    ensures utf8 { IsUtf8 result.now }
 {
-    Text::copied(alloc, value)
+    value
 }
 
-fn values(alloc: Global, finds: &[Found]) -> Result<Vec<Text>, AllocError>
-    ensures values { IfOk result (λ texts. texts.items ≡ values_of (views finds.now)) }
-    ensures utf8 { IfOk result (λ texts. All IsUtf8 texts.items) }
+fn values<'a>(alloc: Global, finds: &[Found<'a>]) -> Result<Vec<&'a str>, AllocError>
+    ensures values { IfOk result (λ values. map (λ v. v.now) values.items ≡ values_of (views finds.now)) }
+    ensures utf8 { IfOk result (λ values. All IsUtf8 (map (λ v. v.now) values.items)) }
 {
-    let mut texts = Vec::new(alloc);
+    let mut values = Vec::with_capacity(alloc, finds.len())?;
     for f in finds {
-        texts.push(copied(alloc, f.value)?)?;
+        values.push(lent(f.value))?;
     }
-    Ok(texts)
+    Ok(values)
 }
 
 // The file with the values of the wanted finds in place of those that it has, which are as many. It
@@ -59,6 +60,6 @@ pub fn replaced(
     let spans = spans(alloc, file.len(), found)?;
     let texts = values(alloc, wanted)?;
     let mut into = Bytes::with_room(alloc, len)?;
-    splice(file, spans.as_slice(), texts.as_slice(), &mut into);
+    splice_any(file, spans.as_slice(), texts.as_slice(), &mut into);
     Ok(into)
 }

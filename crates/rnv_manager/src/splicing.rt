@@ -1,4 +1,4 @@
-ghost use Rattle.std.specs.Prelude.{◌≡◌, ◌≤◌, [], length};
+ghost use Rattle.std.specs.Prelude.{◌≡◌, ◌≤◌, [], length, map};
 ghost use Rattle.rnv_manager.specs.Splice.{AreSpans, spliced};
 
 use rnv_base::{Bytes, Text};
@@ -20,6 +20,17 @@ pub fn splice(file: &str, spans: &[Span], texts: &[Text], into: &mut Bytes)
     requires empty { into.old.bytes ≡ [] }
     requires room { length (spliced file.now 0 spans.now texts.now) ≤ into.old.spare }
     ensures { into.new.bytes ≡ spliced file.now 0 spans.now texts.now }
+{
+    splice_any(file, spans, texts, into);
+}
+
+// The same for whatever lends its text.
+pub(crate) fn splice_any<T: AsStr>(file: &str, spans: &[Span], texts: &[T], into: &mut Bytes)
+    requires many { length texts.now ≡ length spans.now }
+    requires apart { AreSpans 0 spans.now (length file.now) }
+    requires empty { into.old.bytes ≡ [] }
+    requires room { length (spliced file.now 0 spans.now (map T.text texts.now)) ≤ into.old.spare }
+    ensures { into.new.bytes ≡ spliced file.now 0 spans.now (map T.text texts.now) }
 {
     let bytes = file.as_bytes();
     let mut at = 0;
