@@ -1,4 +1,5 @@
 pub mod Formats
+pub mod Live
 pub mod Merges
 pub mod Named
 pub mod Numbers

@@ -43,7 +43,7 @@ none_is_zero (r ∷ rs) is =
 
 -- a number below all
 
-abbrev AreAbove : ℕ → List Request → Type 0
+abbrev pub AreAbove : ℕ → List Request → Type 0
 AreAbove number rs = AllByRecursion (λ (r : Request). number < r.number) rs
 
 other_number : (number : ℕ) (r : Request) → number < r.number → eqb r.number number ≡ false
@@ -54,12 +54,12 @@ none_live_above number [] a = refl
 none_live_above number (r ∷ rs) a =
     ap (λ b. (b && is_live r.state) || is_live_number number rs) (other_number number r a.0) ∙ none_live_above number rs a.1
 
-same_above : (number : ℕ) (f : Request → Request) (rs : List Request) → AreAbove number rs → at_number number f rs ≡ rs
+pub same_above : (number : ℕ) (f : Request → Request) (rs : List Request) → AreAbove number rs → at_number number f rs ≡ rs
 same_above number f [] a = refl
 same_above number f (r ∷ rs) a =
     ap (λ b. cond b (f r) r ∷ at_number number f rs) (other_number number r a.0) ∙ ap (λ l. r ∷ l) (same_above number f rs a.1)
 
-above_one : (number : ℕ) (r : Request) (rs : List Request) → number ≤ r.number → AllByRecursion (IsApart r) rs → AreAbove number rs
+pub above_one : (number : ℕ) (r : Request) (rs : List Request) → number ≤ r.number → AllByRecursion (IsApart r) rs → AreAbove number rs
 above_one number r rs le a = all_weaker (IsApart r) (λ q. number < q.number) (λ q apart. let lt = apart.rises in omega arith) rs a
 
 -- the request of a number is the one behind those below it

@@ -217,12 +217,12 @@ apart_new rs r next none a =
 
 -- what a refusal that does not come tells
 
-record IsFree (branch : List ℕ) (repo : Repo) (otherwise : Option Refusal) : Type 0 where
-  there : is_some (at name_of branch repo.branches) ≡ true
-  free : live_on branch repo.requests ≡ None
-  rest : otherwise ≡ None
+pub record IsFree (branch : List ℕ) (repo : Repo) (otherwise : Option Refusal) : Type 0 where
+  pub there : is_some (at name_of branch repo.branches) ≡ true
+  pub free : live_on branch repo.requests ≡ None
+  pub rest : otherwise ≡ None
 
-free_of : (branch : List ℕ) (repo : Repo) (otherwise : Option Refusal) → refused_branch branch repo otherwise ≡ None → IsFree branch repo otherwise
+pub free_of : (branch : List ℕ) (repo : Repo) (otherwise : Option Refusal) → refused_branch branch repo otherwise ≡ None → IsFree branch repo otherwise
 free_of branch repo otherwise e =
     elim (is_some (at name_of branch repo.branches)) as (λ b. is_some (at name_of branch repo.branches) ≡ b → cond (not b) (Some NoBranch) (refused_live (live_on branch repo.requests) otherwise) ≡ None → IsFree branch repo otherwise) [
       | true ↦ λ is h.

@@ -1,6 +1,7 @@
 pub mod Applying
 pub mod Base
 pub mod Files
+pub mod Live
 pub mod Merging
 pub mod Named
 pub mod Reading

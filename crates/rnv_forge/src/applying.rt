@@ -3,6 +3,7 @@ ghost use Rattle.rnv_forge.specs.declared.applying.ApplyError.TheVariants.{Memor
 ghost use Rattle.rnv_forge.specs.declared.write.Write.TheVariants.{SetBase, PutBranch, DropBranch, OpenRequest, EditRequest, Autoclose, Finish};
 ghost use Rattle.rnv_forge.specs.Applying.{Applies};
 ghost use Rattle.rnv_forge.specs.Base.{path_of};
+ghost use Rattle.rnv_forge.specs.Live.{IsLiveFor, number_on};
 ghost use Rattle.rnv_forge.specs.Merging.{change_path};
 ghost use Rattle.rnv_forge.specs.Named.{IsRisingBy};
 ghost use Rattle.rnv_forge.specs.Store.{IsSound, applied_in, applied_to, begun, name_of, refusal_in, refusal_to, refusal_unknown, refused_branch, refused_if};
@@ -12,7 +13,7 @@ ghost use Rattle.rnv_forge.specs.WellFormed.{HasOrder, IsOrderly};
 
 use crate::base::{is_over, merged};
 use crate::change::{Autoclosing, Texts, change_request, drop_branch, put_branch};
-use crate::lookup::{is_live_number, is_next, refused_branch};
+use crate::lookup::{is_live_number, is_next, live_for, refused_branch};
 use crate::{Branch, FileChange, Refusal, Repo, Request, RequestState, Write};
 use rnv_base::{List, Share, Text};
 use std::alloc::{AllocError, AllocFailed, Global};
@@ -77,11 +78,12 @@ fn put(alloc: Global, repo: Repo, branch: &Branch) -> Result<Repo, ApplyError>
     Ok(Repo { branches, ..repo })
 }
 
-fn drop(repo: Repo, name: &Text) -> Result<Repo, ApplyError>
-    requires { IsRisingBy name_of repo.branches }
+fn drop(repo: Repo, name: &Text, live: Option<u32>) -> Result<Repo, ApplyError>
+    requires branches { IsRisingBy name_of repo.branches }
+    requires live { live ≡ number_on name.now repo.requests }
     ensures { Applies result (refusal_in (DropBranch repo.name name.now) repo) (applied_in (DropBranch repo.name name.now) repo) }
 {
-    if let Some(cause) = refused_branch(&repo, name) {
+    if let Some(cause) = refused_branch(&repo, name, live) {
         return Err(ApplyError::Refused(cause));
     }
     let branches = drop_branch(repo.branches, name);
@@ -89,12 +91,13 @@ fn drop(repo: Repo, name: &Text) -> Result<Repo, ApplyError>
 }
 
 // Why a request with this number may not be opened on this branch.
-fn refused_open(repo: &Repo, number: u32, branch: &Text) -> Option<Refusal>
+fn refused_open(repo: &Repo, number: u32, branch: &Text, live: Option<u32>) -> Option<Refusal>
     requires branches { IsRisingBy name_of repo.now.branches }
     requires requests { AreApart repo.now.requests }
+    requires live { live ≡ number_on branch.now repo.now.requests }
     ensures { result ≡ refused_branch branch.now repo.now (refused_if (not (nat_eq number (next_number repo.now.requests))) (NumberTaken number) None) }
 {
-    if let Some(cause) = refused_branch(repo, branch) {
+    if let Some(cause) = refused_branch(repo, branch, live) {
         return Some(cause);
     }
     if is_next(repo.requests.as_slice(), number) {
@@ -111,13 +114,15 @@ fn open(
     branch: &Text,
     texts: &Texts,
     made_at: u64,
+    live: Option<u32>,
 ) -> Result<Repo, ApplyError>
     requires branches { IsRisingBy name_of repo.branches }
     requires requests { AreApart repo.requests }
+    requires live { live ≡ number_on branch.now repo.requests }
     ensures { Applies result (refusal_in (OpenRequest repo.name number branch.now texts.now.updates.now texts.now.title.now texts.now.body.now texts.now.labels.now made_at) repo)
         (applied_in (OpenRequest repo.name number branch.now texts.now.updates.now texts.now.title.now texts.now.body.now texts.now.labels.now made_at) repo) }
 {
-    if let Some(cause) = refused_open(&repo, number, branch) {
+    if let Some(cause) = refused_open(&repo, number, branch, live) {
         return Err(ApplyError::Refused(cause));
     }
     let request = Request {
@@ -199,7 +204,7 @@ fn begin(alloc: Global, name: &Text, changes: &List<FileChange>) -> Result<Repo,
     })
 }
 
-fn apply_new(alloc: Global, write: &Write) -> Result<Repo, ApplyError>
+pub(crate) fn apply_new(alloc: Global, write: &Write) -> Result<Repo, ApplyError>
     requires { HasOrder write.now }
     ensures { Applies result (refusal_unknown write.now) (begun write.now) }
 {
@@ -209,16 +214,23 @@ fn apply_new(alloc: Global, write: &Write) -> Result<Repo, ApplyError>
     }
 }
 
-fn apply_known(alloc: Global, repo: Repo, write: &Write) -> Result<Repo, ApplyError>
+// What a write makes of a sound repository, with the live request on the branch that it drops or opens a request on.
+pub(crate) fn apply_known(
+    alloc: Global,
+    repo: Repo,
+    write: &Write,
+    live: Option<u32>,
+) -> Result<Repo, ApplyError>
     requires sound { IsSound repo }
     requires revision { repo.revision < 4294967295 }
     requires order { HasOrder write.now }
+    requires live { IsLiveFor write.now repo.requests live }
     ensures { Applies result (refusal_in write.now repo) (applied_in write.now repo) }
 {
     match write {
         Write::SetBase { changes, .. } => set_base(alloc, repo, changes),
         Write::PutBranch { branch, .. } => put(alloc, repo, branch),
-        Write::DropBranch { name, .. } => drop(repo, name),
+        Write::DropBranch { name, .. } => drop(repo, name, live),
         Write::OpenRequest {
             number,
             branch,
@@ -235,7 +247,7 @@ fn apply_known(alloc: Global, repo: Repo, write: &Write) -> Result<Repo, ApplyEr
                 body,
                 labels,
             };
-            open(alloc, repo, *number, branch, &texts, *made_at)
+            open(alloc, repo, *number, branch, &texts, *made_at, live)
         }
         Write::EditRequest {
             number,
@@ -270,6 +282,9 @@ pub fn apply(alloc: Global, known: Option<Repo>, write: &Write) -> Result<Repo, 
 {
     match known {
         None => apply_new(alloc, write),
-        Some(repo) => apply_known(alloc, repo, write),
+        Some(repo) => {
+            let live = live_for(repo.requests.as_slice(), write);
+            apply_known(alloc, repo, write, live)
+        }
     }
 }

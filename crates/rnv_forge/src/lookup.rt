@@ -1,15 +1,17 @@
-ghost use Rattle.std.specs.Prelude.{◌≡◌, ◌<◌, ◌≤◌, ◌&&◌, true, length, is_some, nat_eq, nat_lt, slice_index_or};
+ghost use Rattle.std.specs.Prelude.{◌≡◌, ◌<◌, ◌≤◌, ◌&&◌, true, length, is_some, nat_eq, nat_lt, option_map, slice_index_or};
 ghost use Rattle.std.specs.Cmp.Lexicographic.{slice_cmp};
 ghost use Rattle.std.specs.List.{prefix_len};
 ghost use Rattle.std.specs.Ordering.{is_lt, nat_cmp};
 ghost use Rattle.std.specs.Str.{bytes_eq};
 ghost use Rattle.rnv_forge.specs.declared.branch.Branch.{Branch as Kept};
 ghost use Rattle.rnv_forge.specs.declared.request.Request.{Request as Opened};
+ghost use Rattle.rnv_forge.specs.declared.refusal.Refusal.TheVariants.{HasLiveRequest};
+ghost use Rattle.rnv_forge.specs.Live.{IsLiveFor, number_on};
 ghost use Rattle.rnv_forge.specs.Named.{IsRisingBy, at};
-ghost use Rattle.rnv_forge.specs.Requests.{AreApart, greatest, is_live, is_live_number, is_live_on, live_on, next_number};
-ghost use Rattle.rnv_forge.specs.Store.{name_of, refused_branch, refused_live};
+ghost use Rattle.rnv_forge.specs.Requests.{AreApart, greatest, is_live, is_live_number, is_live_on, next_number};
+ghost use Rattle.rnv_forge.specs.Store.{name_of, refused_branch};
 
-use crate::{Branch, Refusal, Repo, Request, RequestState};
+use crate::{Branch, Refusal, Repo, Request, RequestState, Write};
 use rnv_base::Text;
 use std::convert::AsSlice;
 
@@ -73,7 +75,7 @@ pub(crate) fn is_at_number(requests: &[Request], at: usize, number: u32) -> bool
 }
 
 // Whether the request at this place has this number and is live.
-fn is_live_at(requests: &[Request], at: usize, number: u32) -> bool
+pub(crate) fn is_live_at(requests: &[Request], at: usize, number: u32) -> bool
     ensures within { result ≡ true → at < length requests.now }
     ensures same { (request : Opened) → at < length requests.now → (nat_eq (slice_index_or requests.now at request).number number && is_live (slice_index_or requests.now at request).state) ≡ result }
 {
@@ -91,29 +93,49 @@ pub(crate) fn is_live_number(requests: &[Request], number: u32) -> bool
     is_live_at(requests, place_of_number(requests, number), number)
 }
 
-// Why a branch may not be dropped or have a request opened, where a live request is on it.
-fn refused_live(requests: &[Request], branch: &Text) -> Option<Refusal>
-    ensures { result ≡ refused_live (live_on branch.now requests.now) None }
+// The number of the live request on a branch.
+fn number_on(requests: &[Request], branch: &Text) -> Option<u32>
+    ensures { result ≡ number_on branch.now requests.now }
 {
     for request in requests {
         if is_live_on(request, branch) {
-            return Some(Refusal::HasLiveRequest {
-                number: request.number,
-            });
+            return Some(request.number);
         }
     }
     None
 }
 
-// Why a branch of the repository may not be dropped or have a request opened.
-pub(crate) fn refused_branch(repo: &Repo, name: &Text) -> Option<Refusal>
-    requires { IsRisingBy name_of repo.now.branches }
+// The number of the live request on the branch that a write drops or opens a request on.
+pub(crate) fn live_for(requests: &[Request], write: &Write) -> Option<u32>
+    ensures { IsLiveFor write.now requests.now result }
+{
+    match write {
+        Write::DropBranch { name, .. } => number_on(requests, name),
+        Write::OpenRequest { branch, .. } => number_on(requests, branch),
+        _ => None,
+    }
+}
+
+// Why a branch may not be dropped or have a request opened, where the request of this number is live on it.
+fn refused_live(live: Option<u32>) -> Option<Refusal>
+    ensures { result ≡ option_map HasLiveRequest live }
+{
+    match live {
+        Some(number) => Some(Refusal::HasLiveRequest { number }),
+        None => None,
+    }
+}
+
+// Why a branch of the repository, with this live request on it, may not be dropped or have a request opened.
+pub(crate) fn refused_branch(repo: &Repo, name: &Text, live: Option<u32>) -> Option<Refusal>
+    requires rising { IsRisingBy name_of repo.now.branches }
+    requires live { live ≡ number_on name.now repo.now.requests }
     ensures { result ≡ refused_branch name.now repo.now None }
 {
     if !has_branch(repo.branches.as_slice(), name) {
         return Some(Refusal::NoBranch);
     }
-    refused_live(repo.requests.as_slice(), name)
+    refused_live(live)
 }
 
 // The greatest number is that of the last request.

@@ -6,7 +6,7 @@ ghost use Rattle.rnv_forge.specs.Store.{IsPermitted, IsSoundStore, applied, know
 ghost use Rattle.rnv_forge.specs.WellFormed.{IsOrderly};
 
 use rnv_base::{Share, Text};
-use rnv_forge::{ApplyError, Repo, Write, apply, repo_of};
+use rnv_forge::{ApplyError, Indexed, Repo, Write, repo_of};
 use std::alloc::{AllocError, Global};
 use std::collections::BTreeMap;
 use std::marker::Model;
@@ -14,7 +14,7 @@ use std::marker::Model;
 // The repositories by name. Contracts see their list.
 #[derive(Drop)]
 pub(crate) struct Store {
-    repos: BTreeMap<Text, Repo>,
+    repos: BTreeMap<Text, Indexed>,
 }
 
 impl Model for Store {
@@ -41,7 +41,7 @@ impl Store {
     }
 
     // The repositories, by name.
-    pub(crate) fn into_repos(self, alloc: Global) -> Result<Vec<Repo>, AllocError>
+    pub(crate) fn into_repos(self, alloc: Global) -> Result<Vec<Indexed>, AllocError>
         ensures { IfOk result (λ repos. repos.items ≡ self) }
     {
         let Store { repos } = self;
@@ -53,7 +53,7 @@ impl Store {
         ensures { result ≡ known name.now self }
     {
         let Store { mut repos } = self;
-        repos.remove(name)
+        unindexed(repos.remove(name))
     }
 
     // Applies an orderly write. After an error the store is of no more use.
@@ -66,12 +66,22 @@ impl Store {
         ensures refused { (cause : Cause) → IsErrOf result (Refused cause) → refusal write.now self.old ≡ Some cause }
     {
         let known = self.repos.remove(repo_of(write));
-        match apply(alloc, known, write) {
+        match Indexed::apply(alloc, known, write) {
             Ok(repo) => {
-                self.repos.insert(repo.name.share(alloc)?, repo)?;
+                self.repos.insert(repo.name().share(alloc)?, repo)?;
                 Ok(())
             }
             Err(error) => Err(error),
         }
+    }
+}
+
+// The repository without its index.
+fn unindexed(known: Option<Indexed>) -> Option<Repo>
+    ensures { result ≡ known }
+{
+    match known {
+        Some(repo) => Some(repo.into_repo()),
+        None => None,
     }
 }

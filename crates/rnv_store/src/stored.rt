@@ -15,7 +15,7 @@ ghost use Rattle.rnv_store.specs.Writes.{AreWrites, IsAdded, IsDamaged, IsSpelle
 use crate::store::Store;
 use crate::texts::has_texts;
 use rnv_base::{Bytes, List, Share, Text};
-use rnv_forge::{ApplyError, Refusal, Repo, Write, read_write, spell};
+use rnv_forge::{ApplyError, Indexed, Refusal, Write, read_write, spell};
 use std::alloc::{AllocError, Global};
 use std::convert::AsSlice;
 
@@ -72,12 +72,12 @@ pub(crate) fn stored(alloc: Global, entries: &[Bytes]) -> Result<Store, StoredEr
 }
 
 // The names of repositories.
-pub(crate) fn names_of(alloc: Global, repos: &[Repo]) -> Result<List<Text>, AllocError>
+pub(crate) fn names_of(alloc: Global, repos: &[Indexed]) -> Result<List<Text>, AllocError>
     ensures { IfOk result (λ names. names ≡ map (λ repo. repo.name) repos.now) }
 {
     let mut names = List::empty(alloc);
     for repo in repos {
-        names.push(repo.name.share(alloc)?)?;
+        names.push(repo.name().share(alloc)?)?;
     }
     Ok(names)
 }

@@ -46,7 +46,7 @@ invariant_of-self-in_err-insert-in-Ok c = record {
 
 pub invariant_of-self-in-Ok : goal.invariant_of-self-in-Ok
 invariant_of-self-in-Ok c = record {
-  named = (put_whole _ _ _ _ _ _ c.self.invariant c.remove-known.ensures.entries c.in_ok-insert-in-Ok.ensures.entries c.in_ok-share-in-Ok.ensures).0;
+  named = (put_whole _ _ _ _ _ _ c.self.invariant c.remove-known.ensures.entries c.in_ok-insert-in-Ok.ensures.entries (c.in_ok-share-in-Ok.ensures ∙ c.name.ensures)).0;
   ordered = c.insert.ensures.ordered;
 }
 
@@ -62,7 +62,7 @@ returns-in_ok-insert-in-Ok-clause-ok c =
     let is = found _ _ c.self.inside.repos.entries c.args.self.now c.remove-known.result (c.remove-known.ensures.value ∙ known_is _ _ c.self.invariant.named) c.repo_of.ensures c.self.view_is in
     let repo_is : c.in-Ok.repo ≡ applied_to w (known (repo_of w) store) = c.in-Ok.ensures.applied.1 ∙ ap (λ (o : Option Repo). applied_to w o) is in
     let same : c.repo_of.result.now ≡ c.in-Ok.repo.name = c.repo_of.ensures ∙ sym (ap name_is repo_is ∙ applied_name w store) in
-    (put_whole _ _ _ _ _ _ c.self.invariant c.remove-known.ensures.entries c.in_ok-insert-in-Ok.ensures.entries c.in_ok-share-in-Ok.ensures).1 same
+    (put_whole _ _ _ _ _ _ c.self.invariant c.remove-known.ensures.entries c.in_ok-insert-in-Ok.ensures.entries (c.in_ok-share-in-Ok.ensures ∙ c.name.ensures)).1 same
     ∙ ap (λ (r : Repo). put name_is r (values_of c.self.inside.repos.entries)) repo_is
     ∙ ap (λ (l : List Repo). put name_is (applied_to w (known (repo_of w) store)) l) c.self.view_is
 

@@ -7,4 +7,4 @@ use Rattle.rnv_store.proofs.store.Store.into_repo.Goals as goal
 pub returns : goal.returns
 returns c =
     let name = c.args.name.now in
-    c.remove.ensures.value ∙ known_is name c.self.inside.repos.entries c.self.invariant.named ∙ ap (λ (l : List Repo). known name l) c.self.view_is
+    c.unindexed.ensures ∙ c.remove.ensures.value ∙ known_is name c.self.inside.repos.entries c.self.invariant.named ∙ ap (λ (l : List Repo). known name l) c.self.view_is
