@@ -1,0 +1,11 @@
+pub mod Content
+pub mod Given
+pub mod Items
+pub mod Law
+pub mod Limits
+pub mod Outcome
+pub mod Same
+pub mod Steps
+pub mod Texts
+pub mod Views
+pub mod Work
