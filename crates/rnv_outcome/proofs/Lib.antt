@@ -1,14 +1,23 @@
+pub mod Asks
+pub mod Cleans
 pub mod Counts
+pub mod Ends
 pub mod Found
 pub mod Items
 pub mod Kept
 pub mod Lists
+pub mod Made
 pub mod Named
 pub mod Next
+pub mod OneWrite
 pub mod Opens
+pub mod Permitted
+pub mod Puts
 pub mod Requests
 pub mod Same
+pub mod Stores
 pub mod Unticked
 pub mod Views
 mod Worked
+pub mod Works
 pub mod Written

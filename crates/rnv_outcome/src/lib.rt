@@ -3,5 +3,7 @@
 #![tactic(auto)]
 
 mod item;
+mod law;
 
 pub use item::{Item, ItemEdits};
+pub use law::resumption;
