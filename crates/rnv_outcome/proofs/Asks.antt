@@ -52,30 +52,30 @@ open_next g repo w ws fit sound none all k work t is b l to w_is us_is =
     let d = is_chosen g (changed repo bs rs') e in
     let a = after_request g (base_of repo) (is_chosen g repo e) d e (view g repo e) r b is work in
     let keeps : Keeps g repo bs rs' e k.us = record {
-              found = found;
-              away = away;
-              chooses = chooses;
-              agree = subst (Agree g (base_of repo) (is_chosen g repo e) d e (view g repo e)) (sym here) a.same;
-              todo = ap (todo g (base_of repo) d e) here ∙ a.todo ∙ sym us_is;
-            } in
+      found = found;
+      away = away;
+      chooses = chooses;
+      agree = subst (Agree g (base_of repo) (is_chosen g repo e) d e (view g repo e)) (sym here) a.same;
+      todo = ap (todo g (base_of repo) d e) here ∙ a.todo ∙ sym us_is;
+    } in
     let todos_is = todos_after g repo bs rs' w ws fit k keeps in
     let old_same = map-same (settled g (changed repo bs rs')) (settled g repo) rs
-              (all_weaker (λ r. is_live_on e.branch r ≡ false) (λ r. settled g (changed repo bs rs') r ≡ settled g repo r) (settled_away g repo bs rs' e.branch away chooses) rs (none_live e.branch rs free)) in
+    (all_weaker (λ r. is_live_on e.branch r ≡ false) (λ r. settled g (changed repo bs rs') r ≡ settled g repo r) (settled_away g repo bs rs' e.branch away chooses) rs (none_live e.branch rs free)) in
     let new_same : settled g (changed repo bs rs') r ≡ r = settled_here g (changed repo bs rs') e r found (bytes_refl e.branch) ∙ ap (λ v. settle g (base_of repo) d e v r) here ∙ a.settle r is in
     let next_is : next_number rs' ≡ n + 1 = (let h : greatest rs' ≡ max (greatest rs) n = greatest_push rs r in omega arith) in
     next_of g repo bs rs' [] ws (opening repo.name n e.branch t g.moment) (may_open repo e.branch t g.moment sound based free)
-        (record {
-          cleanup = cleanup_after g repo bs rs' e k.us keeps (wanted_all g repo none);
-          todos = todos_is;
-          branches = branches_after g repo bs rs' e.branch (by_name g repo bs rs' e k.us keeps);
-          requests = requests_is g (changed repo bs rs')
-              ∙ ap (λ l. map (settled g (changed repo bs rs')) rs' ++ requests_from (next_number rs') (opens l)) todos_is
-              ∙ ap (λ m. map (settled g (changed repo bs rs')) rs' ++ requests_from m (opens ws)) next_is
-              ∙ ap (λ l. l ++ requests_from (n + 1) (opens ws)) (map-append (settled g (changed repo bs rs')) rs (r ∷ []) ∙ ap (λ l. l ++ settled g (changed repo bs rs') r ∷ []) old_same ∙ ap (λ q. map (settled g repo) rs ++ q ∷ []) new_same)
-              ∙ append_assoc (map (settled g repo) rs) (r ∷ []) (requests_from (n + 1) (opens ws))
-              ∙ ap (λ l. map (settled g repo) rs ++ requests_from n l) (sym (ap opens all ∙ ap (λ w. opens (w ∷ ws)) w_is))
-              ∙ sym (requests_is g repo);
-        })
+    (record {
+      cleanup = cleanup_after g repo bs rs' e k.us keeps (wanted_all g repo none);
+      todos = todos_is;
+      branches = branches_after g repo bs rs' e.branch (by_name g repo bs rs' e k.us keeps);
+      requests = requests_is g (changed repo bs rs')
+          ∙ ap (λ l. map (settled g (changed repo bs rs')) rs' ++ requests_from (next_number rs') (opens l)) todos_is
+          ∙ ap (λ m. map (settled g (changed repo bs rs')) rs' ++ requests_from m (opens ws)) next_is
+          ∙ ap (λ l. l ++ requests_from (n + 1) (opens ws)) (map-append (settled g (changed repo bs rs')) rs (r ∷ []) ∙ ap (λ l. l ++ settled g (changed repo bs rs') r ∷ []) old_same ∙ ap (λ q. map (settled g repo) rs ++ q ∷ []) new_same)
+          ∙ append_assoc (map (settled g repo) rs) (r ∷ []) (requests_from (n + 1) (opens ws))
+          ∙ ap (λ l. map (settled g repo) rs ++ requests_from n l) (sym (ap opens all ∙ ap (λ w. opens (w ∷ ws)) w_is))
+          ∙ sym (requests_is g repo);
+    })
 
 -- a request is edited
 
@@ -98,29 +98,29 @@ edit_next g repo w ws fit sound none all k work t is r b l w_is us_is =
     let a = after_request g (base_of repo) (is_chosen g repo e) d e (view g repo e) (with_texts t r) b is work in
     let old = worked g (base_of repo) (is_chosen g repo e) e (view g repo e) work in
     let keeps : Keeps g repo bs rs' e k.us = record {
-              found = found;
-              away = away;
-              chooses = chooses;
-              agree = subst (Agree g (base_of repo) (is_chosen g repo e) d e (view g repo e)) (sym here) a.same;
-              todo = ap (todo g (base_of repo) d e) here ∙ a.todo ∙ sym us_is;
-            } in
+      found = found;
+      away = away;
+      chooses = chooses;
+      agree = subst (Agree g (base_of repo) (is_chosen g repo e) d e (view g repo e)) (sym here) a.same;
+      todo = ap (todo g (base_of repo) d e) here ∙ a.todo ∙ sym us_is;
+    } in
     let todos_is = todos_after g repo bs rs' w ws fit k keeps in
     let one_same : (q : Request) → settled g (changed repo bs rs') (cond (is_live_on e.branch q) (with_texts t q) q) ≡ settled g repo q = λ q.
-              elim (is_live_on e.branch q) as (λ x. is_live_on e.branch q ≡ x → settled g (changed repo bs rs') (cond x (with_texts t q) q) ≡ settled g repo q) [
-                | true ↦ λ h. settled_here g (changed repo bs rs') e (with_texts t q) found h ∙ ap (λ v. settle g (base_of repo) d e v (with_texts t q)) here ∙ a.settle (with_texts t q) is
-                      ∙ ap (λ x. with_texts x q) is ∙ sym (settled_here g repo e q found h ∙ old.settle q)
-                | false ↦ λ h. settled_away g repo bs rs' e.branch away chooses q h
-              ] refl in
+    elim (is_live_on e.branch q) as (λ x. is_live_on e.branch q ≡ x → settled g (changed repo bs rs') (cond x (with_texts t q) q) ≡ settled g repo q) [
+      | true ↦ λ h. settled_here g (changed repo bs rs') e (with_texts t q) found h ∙ ap (λ v. settle g (base_of repo) d e v (with_texts t q)) here ∙ a.settle (with_texts t q) is
+          ∙ ap (λ x. with_texts x q) is ∙ sym (settled_here g repo e q found h ∙ old.settle q)
+      | false ↦ λ h. settled_away g repo bs rs' e.branch away chooses q h
+    ] refl in
     subst (Next g repo (editing repo.name r.number t) (ws ++ finish g repo)) (ap (changed repo bs) (sym (at_number-live e.branch rs r (with_texts t) sound.requests live)))
-        (next_of g repo bs rs' [] ws (editing repo.name r.number t) (may_edit repo e.branch r t sound live)
-            (record {
-              cleanup = cleanup_after g repo bs rs' e k.us keeps (wanted_all g repo none);
-              todos = todos_is;
-              branches = branches_after g repo bs rs' e.branch (by_name g repo bs rs' e k.us keeps);
-              requests = requests_is g (changed repo bs rs')
-                  ∙ ap (λ l. map (settled g (changed repo bs rs')) rs' ++ requests_from (next_number rs') (opens l)) todos_is
-                  ∙ ap (λ m. map (settled g (changed repo bs rs')) rs' ++ requests_from (m + 1) (opens ws)) (greatest_at_live e.branch (with_texts t) (λ q. refl) rs)
-                  ∙ ap (λ l. l ++ requests_from (next_number rs) (opens ws)) (map_map (settled g (changed repo bs rs')) (λ q. cond (is_live_on e.branch q) (with_texts t q) q) rs ∙ map-same _ (settled g repo) rs (all_every _ one_same rs))
-                  ∙ ap (λ l. map (settled g repo) rs ++ requests_from (next_number rs) l) (sym (ap opens all ∙ ap (λ w. opens (w ∷ ws)) w_is))
-                  ∙ sym (requests_is g repo);
-            }))
+    (next_of g repo bs rs' [] ws (editing repo.name r.number t) (may_edit repo e.branch r t sound live)
+    (record {
+      cleanup = cleanup_after g repo bs rs' e k.us keeps (wanted_all g repo none);
+      todos = todos_is;
+      branches = branches_after g repo bs rs' e.branch (by_name g repo bs rs' e k.us keeps);
+      requests = requests_is g (changed repo bs rs')
+          ∙ ap (λ l. map (settled g (changed repo bs rs')) rs' ++ requests_from (next_number rs') (opens l)) todos_is
+          ∙ ap (λ m. map (settled g (changed repo bs rs')) rs' ++ requests_from (m + 1) (opens ws)) (greatest_at_live e.branch (with_texts t) (λ q. refl) rs)
+          ∙ ap (λ l. l ++ requests_from (next_number rs) (opens ws)) (map_map (settled g (changed repo bs rs')) (λ q. cond (is_live_on e.branch q) (with_texts t q) q) rs ∙ map-same _ (settled g repo) rs (all_every _ one_same rs))
+          ∙ ap (λ l. map (settled g repo) rs ++ requests_from (next_number rs) l) (sym (ap opens all ∙ ap (λ w. opens (w ∷ ws)) w_is))
+          ∙ sym (requests_is g repo);
+    }))

@@ -54,7 +54,7 @@ item_end : (g : Given) (repo : Repo) (p : Option (List ℕ)) → IsFit g → g.t
 item_end g repo p fit t none m i f =
     let v = view_ended g repo p i t in
     subst (AfterEnd g (base_of repo) (is_chosen g repo i) (is_chosen g (ended repo p) i) i (view g repo i)) (sym v)
-        (after_end g (base_of repo) (is_chosen g repo i) (is_chosen g (ended repo p) i) i (view g repo i) (λ _. made_end g repo p fit (λ i. view_ended g repo p i t) (λ i f. idle g repo none i.branch i f) i) (idle g repo none m i f))
+    (after_end g (base_of repo) (is_chosen g repo i) (is_chosen g (ended repo p) i) i (view g repo i) (λ _. made_end g repo p fit (λ i. view_ended g repo p i t) (λ i f. idle g repo none i.branch i f) i) (idle g repo none m i f))
 
 pub end_next : (g : Given) (repo : Repo) → IsFit g → IsSound repo → cleanup g repo ≡ [] → todos g repo ≡ [] → (p : Option (List ℕ)) → p ≡ outcome_page g repo → Next g repo (Finish repo.name p) [] (ended repo p)
 unfolding finish todos
@@ -62,26 +62,26 @@ end_next g repo fit sound clean none p is =
     let unticked : g.ticks p ≡ [] = ap g.ticks is ∙ fit.unticked (outcome_branch g repo) (outcome_requests g repo) in
     let each = item_end g repo p fit unticked none in
     let wanted_same : (o : Option Item) (m : List ℕ) → item_at m g.items ≡ o → wanted_over g (ended repo p) o ≡ wanted_over g repo o = λ o m.
-              elim o as (λ o. item_at m g.items ≡ o → wanted_over g (ended repo p) o ≡ wanted_over g repo o) [ None ↦ λ f. refl | Some i ↦ λ f. (each m i f).same.wanted ] in
+    elim o as (λ o. item_at m g.items ≡ o → wanted_over g (ended repo p) o ≡ wanted_over g repo o) [ None ↦ λ f. refl | Some i ↦ λ f. (each m i f).same.wanted ] in
     let branch_same : (o : Option Item) (m : List ℕ) → item_at m g.items ≡ o → target_over g (ended repo p) o ≡ target_over g repo o = λ o m.
-              elim o as (λ o. item_at m g.items ≡ o → target_over g (ended repo p) o ≡ target_over g repo o) [ None ↦ λ f. refl | Some i ↦ λ f. (each m i f).same.target ] in
+    elim o as (λ o. item_at m g.items ≡ o → target_over g (ended repo p) o ≡ target_over g repo o) [ None ↦ λ f. refl | Some i ↦ λ f. (each m i f).same.target ] in
     let todos_is : todos g (ended repo p) ≡ [] = flat_map-none (todo_of g (ended repo p)) (work_order g (ended repo p))
-              (all_weaker (λ (i : Item). item_at i.branch g.items ≡ Some i) (λ i. todo_of g (ended repo p) i ≡ []) (λ i f. (each i.branch i f).todo) (work_order g (ended repo p)) (order_found g (ended repo p) fit)) in
+    (all_weaker (λ (i : Item). item_at i.branch g.items ≡ Some i) (λ i. todo_of g (ended repo p) i ≡ []) (λ i f. (each i.branch i f).todo) (work_order g (ended repo p)) (order_found g (ended repo p) fit)) in
     let settle_same : (r : Request) → live_on r.branch repo.requests ≡ Some r → (o : Option Item) → item_at r.branch g.items ≡ o → settle_over g (ended repo p) r o ≡ settle_over g repo r o = λ r l o.
-              elim o as (λ o. item_at r.branch g.items ≡ o → settle_over g (ended repo p) r o ≡ settle_over g repo r o) [
-                | None ↦ λ f. refl
-                | Some i ↦ λ f. (each r.branch i f).settle r (view_live g repo i ∙ ap (λ n. live_on n repo.requests) (bytes_true i.branch r.branch (item_name r.branch g.items i f)) ∙ l)
-              ] in
+    elim o as (λ o. item_at r.branch g.items ≡ o → settle_over g (ended repo p) r o ≡ settle_over g repo r o) [
+      | None ↦ λ f. refl
+      | Some i ↦ λ f. (each r.branch i f).settle r (view_live g repo i ∙ ap (λ n. live_on n repo.requests) (bytes_true i.branch r.branch (item_name r.branch g.items i f)) ∙ l)
+    ] in
     let settled_same : (r : Request) → (is_live r.state ≡ true → live_on r.branch repo.requests ≡ Some r) → settled g (ended repo p) r ≡ settled g repo r = λ r l.
-              elim (is_live r.state) as (λ t. (t ≡ true → live_on r.branch repo.requests ≡ Some r) → cond t (settle_over g (ended repo p) r (item_at r.branch g.items)) r ≡ cond t (settle_over g repo r (item_at r.branch g.items)) r) [
-                | true ↦ λ h. settle_same r (h refl) (item_at r.branch g.items) refl
-                | false ↦ λ h. refl
-              ] l in
+    elim (is_live r.state) as (λ t. (t ≡ true → live_on r.branch repo.requests ≡ Some r) → cond t (settle_over g (ended repo p) r (item_at r.branch g.items)) r ≡ cond t (settle_over g repo r (item_at r.branch g.items)) r) [
+      | true ↦ λ h. settle_same r (h refl) (item_at r.branch g.items) refl
+      | false ↦ λ h. refl
+    ] l in
     let branches : (m : List ℕ) → outcome_branch g (ended repo p) m ≡ outcome_branch g repo m = λ m. branch_same (item_at m g.items) m refl in
     let requests : outcome_requests g (ended repo p) ≡ outcome_requests g repo = requests_is g (ended repo p)
-              ∙ ap (λ l. map (settled g (ended repo p)) repo.requests ++ requests_from (next_number repo.requests) (opens l)) (todos_is ∙ sym none)
-              ∙ ap (λ l. l ++ requests_from (next_number repo.requests) (opens (todos g repo))) (map-same (settled g (ended repo p)) (settled g repo) repo.requests (all_weaker _ _ settled_same repo.requests (live_self repo.requests sound.requests)))
-              ∙ sym (requests_is g repo) in
+    ∙ ap (λ l. map (settled g (ended repo p)) repo.requests ++ requests_from (next_number repo.requests) (opens l)) (todos_is ∙ sym none)
+    ∙ ap (λ l. l ++ requests_from (next_number repo.requests) (opens (todos g repo))) (map-same (settled g (ended repo p)) (settled g repo) repo.requests (all_weaker _ _ settled_same repo.requests (live_self repo.requests sound.requests)))
+    ∙ sym (requests_is g repo) in
     let page = page_same g repo (ended repo p) branches requests in
     record {
       next = may_finish repo p sound;
@@ -135,7 +135,10 @@ at_rest g repo fit sound e =
     let q = no_append (todos g repo) (finish g repo) p.1 in
     let over = is_over repo.due (same_page repo.page (outcome_page g repo)) q.1 in
     record {
-      name = refl; revision = refl; files = refl; deliveries = refl;
+      name = refl;
+      revision = refl;
+      files = refl;
+      deliveries = refl;
       rising = sound.branches;
       branches = λ n. branch_is p.0 q.0 n (item_at n g.items) refl;
       requests = sym (requests_is g repo ∙ ap (λ l. map (settled g repo) repo.requests ++ requests_from (next_number repo.requests) (opens l)) q.0 ∙ all_settled p.0 q.0);
@@ -147,34 +150,40 @@ at_rest g repo fit sound e =
     is_over true s h = cc
     is_over false true h = (refl, refl)
     is_over false false h = cc
+
     absent : cleanup g repo ≡ [] → (n : List ℕ) → is_wanted_name g repo n ≡ false → (o : Option Branch) → at name_of n repo.branches ≡ o → o ≡ None
     absent clean n w None is = refl
     absent clean n w (Some b) is = absurd (both_ways (is_wanted_name g repo n) w (wanted_there g repo clean n b is))
+
     branch_is : cleanup g repo ≡ [] → todos g repo ≡ [] → (n : List ℕ) (o : Option Item) → item_at n g.items ≡ o → at name_of n repo.branches ≡ target_over g repo o
     branch_is clean none n None f = absent clean n (ap (wanted_over g repo) f) (at name_of n repo.branches) refl
     branch_is clean none n (Some i) f =
         elim (is_wanted i (view g repo i)) as (λ t. is_wanted i (view g repo i) ≡ t → at name_of n repo.branches ≡ target g (base_of repo) (is_chosen g repo i) i (view g repo i)) [
           | true ↦ λ w. ap (λ m. at name_of m repo.branches) (sym (bytes_true i.branch n (item_name n g.items i f))) ∙ sym (view_branch g repo i)
-                ∙ sym ((rests g (base_of repo) (is_chosen g repo i) i (view g repo i) (idle g repo none n i f)).target w)
+              ∙ sym ((rests g (base_of repo) (is_chosen g repo i) i (view g repo i) (idle g repo none n i f)).target w)
           | false ↦ λ w. absent clean n (ap (wanted_over g repo) f ∙ w) (at name_of n repo.branches) refl
-                ∙ sym (ap (λ t. cond t (cond (is_worked g (is_chosen g repo i) i (view g repo i)) (Some (result g (base_of repo) i (view g repo i))) (view g repo i).branch) None) w)
+              ∙ sym (ap (λ t. cond t (cond (is_worked g (is_chosen g repo i) i (view g repo i)) (Some (result g (base_of repo) i (view g repo i))) (view g repo i).branch) None) w)
         ] refl
+
     present : cleanup g repo ≡ [] → (n : List ℕ) (o : Option Branch) → at name_of n repo.branches ≡ o → is_some o ≡ true → is_wanted_name g repo n ≡ true
     present clean n None is h = cc
     present clean n (Some b) is h = wanted_there g repo clean n b is
+
     settled_is : cleanup g repo ≡ [] → todos g repo ≡ [] → (r : Request) → live_on r.branch repo.requests ≡ Some r → (b : is_some (at name_of r.branch repo.branches) ≡ true) → (o : Option Item) → item_at r.branch g.items ≡ o → settle_over g repo r o ≡ r
     settled_is clean none r l b None f =
         absurd (both_ways (is_wanted_name g repo r.branch) (ap (wanted_over g repo) f) (present clean r.branch (at name_of r.branch repo.branches) refl b))
     settled_is clean none r l b (Some i) f =
         (rests g (base_of repo) (is_chosen g repo i) i (view g repo i) (idle g repo none r.branch i f)).settle
-            (sym (ap (wanted_over g repo) f) ∙ present clean r.branch (at name_of r.branch repo.branches) refl b) r
-            (view_live g repo i ∙ ap (λ n. live_on n repo.requests) (bytes_true i.branch r.branch (item_name r.branch g.items i f)) ∙ l)
+        (sym (ap (wanted_over g repo) f) ∙ present clean r.branch (at name_of r.branch repo.branches) refl b) r
+        (view_live g repo i ∙ ap (λ n. live_on n repo.requests) (bytes_true i.branch r.branch (item_name r.branch g.items i f)) ∙ l)
+
     one_settled : cleanup g repo ≡ [] → todos g repo ≡ [] → (r : Request) → IsBased repo.branches r → (is_live r.state ≡ true → live_on r.branch repo.requests ≡ Some r) → settled g repo r ≡ r
     one_settled clean none r b l =
         elim (is_live r.state) as (λ t. (t ≡ true → is_some (at name_of r.branch repo.branches) ≡ true) → (t ≡ true → live_on r.branch repo.requests ≡ Some r) → cond t (settle_over g repo r (item_at r.branch g.items)) r ≡ r) [
           | true ↦ λ b l. settled_is clean none r (l refl) (b refl) (item_at r.branch g.items) refl
           | false ↦ λ b l. refl
         ] b l
+
     all_settled : cleanup g repo ≡ [] → todos g repo ≡ [] → map (settled g repo) repo.requests ++ [] ≡ repo.requests
     all_settled clean none = append-nil (map (settled g repo) repo.requests) ∙ map_id (settled g repo) repo.requests
         (all_both (IsBased repo.branches) (λ r. is_live r.state ≡ true → live_on r.branch repo.requests ≡ Some r) (λ r. settled g repo r ≡ r) (one_settled clean none) repo.requests sound.based (live_self repo.requests sound.requests))

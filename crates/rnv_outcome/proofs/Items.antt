@@ -14,7 +14,7 @@ use Rattle.rnv_outcome.specs.Outcome.{news, settle}
 use Rattle.rnv_outcome.specs.Same.{has, same_texts}
 use Rattle.rnv_outcome.specs.Texts.{editing, opened, opening, texts_of, with_texts}
 use Rattle.rnv_outcome.specs.Views.{View, is_touched, is_wanted}
-use Rattle.rnv_outcome.specs.Work.{is_worked, is_worked_over, put_writes, request_writes, target, todo}
+use Rattle.rnv_outcome.specs.Work.{ask_writes, is_worked, is_worked_over, put_writes, request_writes, target, todo}
 use Rattle.rnv_outcome.specs.declared.item.Item.{Item}
 
 pub cond_same : {X : Type 0} (b : Bool) (x : X) → cond b x x ≡ x
@@ -23,7 +23,7 @@ cond_same false x = refl
 
 -- the three kinds of a first write
 pub data Kind (g : Given) (base : Base) (chosen : Bool) (i : Item) (v : View) (w : Write) (us : List Write) : Type 0 where
-  Puts : has v.branch (result g base i v) ≡ false → w ≡ PutBranch base.name (result g base i v) → us ≡ request_writes base.name (to_open g base i v) g.moment i.branch v.live (texts g base i v) → Kind g base chosen i v w us
+  Puts : has v.branch (result g base i v) ≡ false → w ≡ PutBranch base.name (result g base i v) → us ≡ ask_writes g base i v → Kind g base chosen i v w us
   Opens : v.branch ≡ Some (result g base i v) → v.live ≡ None → to_open g base i v ≡ true → w ≡ opening base.name 0 i.branch (texts g base i v) g.moment → us ≡ [] → Kind g base chosen i v w us
   Edits : (r : Request) → v.branch ≡ Some (result g base i v) → v.live ≡ Some r → w ≡ editing base.name r.number (texts g base i v) → us ≡ [] → Kind g base chosen i v w us
 
@@ -40,13 +40,13 @@ kind_request g base chosen i v w us b (Some r) l e =
     ] e
 
 kind_put : (g : Given) (base : Base) (chosen : Bool) (i : Item) (v : View) (w : Write) (us : List Write) (t : Bool) → has v.branch (result g base i v) ≡ t
-    → cond t [] (PutBranch base.name (result g base i v) ∷ []) ++ request_writes base.name (to_open g base i v) g.moment i.branch v.live (texts g base i v) ≡ w ∷ us → Kind g base chosen i v w us
+    → cond t [] (PutBranch base.name (result g base i v) ∷ []) ++ ask_writes g base i v ≡ w ∷ us → Kind g base chosen i v w us
 kind_put g base chosen i v w us true is e = kind_request g base chosen i v w us (has-true v.branch (result g base i v) is) v.live refl e
 kind_put g base chosen i v w us false is e = Puts is (heads _ w _ us e) (tails _ w _ us e)
 
 pub kind_of : (g : Given) (base : Base) (chosen : Bool) (i : Item) (v : View) (w : Write) (us : List Write) → todo g base chosen i v ≡ w ∷ us → (is_worked g chosen i v ≡ true) × Kind g base chosen i v w us
 kind_of g base chosen i v w us e =
-    elim (is_worked g chosen i v) as (λ t. cond t (put_writes base.name v.branch (result g base i v) ++ request_writes base.name (to_open g base i v) g.moment i.branch v.live (texts g base i v)) [] ≡ w ∷ us → (t ≡ true) × Kind g base chosen i v w us) [
+    elim (is_worked g chosen i v) as (λ t. cond t (put_writes base.name v.branch (result g base i v) ++ ask_writes g base i v) [] ≡ w ∷ us → (t ≡ true) × Kind g base chosen i v w us) [
       | true ↦ λ h. (refl, kind_put g base chosen i v w us (has v.branch (result g base i v)) refl h)
       | false ↦ λ h. cc
     ] e
@@ -58,7 +58,7 @@ unwanted g base chosen i v e =
     let w : is_worked g chosen i v ≡ false = ap (λ t. t && is_worked_over (v.ticked || chosen) (is_touched g i v) v.branch) e in
     record {
       work = w;
-      todo = ap (λ t. cond t (put_writes base.name v.branch (result g base i v) ++ request_writes base.name (to_open g base i v) g.moment i.branch v.live (texts g base i v)) []) w;
+      todo = ap (λ t. cond t (put_writes base.name v.branch (result g base i v) ++ ask_writes g base i v) []) w;
       target = ap (λ t. cond t (cond (is_worked g chosen i v) (Some (result g base i v)) v.branch) None) e;
       news = ap (λ t. cond (t && to_open g base i v) (opened 0 i.branch (texts g base i v) g.moment ∷ []) []) w;
       settle = λ r. ap (λ t. cond t (cond (is_worked g chosen i v) (with_texts (texts g base i v) r) r) (autoclosed r)) e;
@@ -68,7 +68,7 @@ unwanted g base chosen i v e =
 pub worked : (g : Given) (base : Base) (chosen : Bool) (i : Item) (v : View) → is_worked g chosen i v ≡ true
     → record {
       wanted : is_wanted i v ≡ true;
-      todo : todo g base chosen i v ≡ put_writes base.name v.branch (result g base i v) ++ request_writes base.name (to_open g base i v) g.moment i.branch v.live (texts g base i v);
+      todo : todo g base chosen i v ≡ put_writes base.name v.branch (result g base i v) ++ ask_writes g base i v;
       target : target g base chosen i v ≡ Some (result g base i v);
       news : news g base chosen i v ≡ cond (to_open g base i v) (opened 0 i.branch (texts g base i v) g.moment ∷ []) [];
       settle : (r : Request) → settle g base chosen i v r ≡ with_texts (texts g base i v) r;
@@ -77,7 +77,7 @@ worked g base chosen i v w =
     let e = (and_parts (is_wanted i v) (is_worked_over (v.ticked || chosen) (is_touched g i v) v.branch) w).0 in
     record {
       wanted = e;
-      todo = ap (λ t. cond t (put_writes base.name v.branch (result g base i v) ++ request_writes base.name (to_open g base i v) g.moment i.branch v.live (texts g base i v)) []) w;
+      todo = ap (λ t. cond t (put_writes base.name v.branch (result g base i v) ++ ask_writes g base i v) []) w;
       target = ap (λ t. cond t (cond (is_worked g chosen i v) (Some (result g base i v)) v.branch) None) e ∙ ap (λ t. cond t (Some (result g base i v)) v.branch) w;
       news = ap (λ t. cond (t && to_open g base i v) (opened 0 i.branch (texts g base i v) g.moment ∷ []) []) w;
       settle = λ r. ap (λ t. cond t (cond (is_worked g chosen i v) (with_texts (texts g base i v) r) r) (autoclosed r)) e ∙ ap (λ t. cond t (with_texts (texts g base i v) r) r) w;

@@ -15,7 +15,7 @@ use Rattle.rnv_outcome.specs.Outcome.{news, news_of, outcome_requests, requests_
 use Rattle.rnv_outcome.specs.Same.{has, same_texts}
 use Rattle.rnv_outcome.specs.Texts.{Texts, editing, opened, opening, texts_of}
 use Rattle.rnv_outcome.specs.Views.{View, view}
-use Rattle.rnv_outcome.specs.Work.{is_worked, put_writes, request_writes, todo, todo_of, todos, work_order}
+use Rattle.rnv_outcome.specs.Work.{ask_writes, is_worked, put_writes, request_writes, todo, todo_of, todos, work_order}
 use Rattle.rnv_outcome.specs.declared.item.Item.{Item}
 
 abbrev pub opens : List Write → List Request
@@ -58,10 +58,10 @@ opens_request repo b made n (Some r) t h = opens_edit repo (same_texts (texts_of
 
 opens_todo : (g : Given) (base : Base) (c : Bool) (i : Item) (v : View) → opens (todo g base c i v) ≡ news g base c i v
 opens_todo g base c i v =
-    elim (is_worked g c i v) as (λ x. opens (cond x (put_writes base.name v.branch (result g base i v) ++ request_writes base.name (to_open g base i v) g.moment i.branch v.live (texts g base i v)) []) ≡ cond (x && to_open g base i v) (opened 0 i.branch (texts g base i v) g.moment ∷ []) []) [
-      | true ↦ opens-append (put_writes base.name v.branch (result g base i v)) (request_writes base.name (to_open g base i v) g.moment i.branch v.live (texts g base i v))
-            ∙ ap (λ l. l ++ opens (request_writes base.name (to_open g base i v) g.moment i.branch v.live (texts g base i v))) (opens_put base.name (has v.branch (result g base i v)) (result g base i v))
-            ∙ opens_request base.name (to_open g base i v) g.moment i.branch v.live (texts g base i v) (opens_none v.live)
+    elim (is_worked g c i v) as (λ x. opens (cond x (put_writes base.name v.branch (result g base i v) ++ ask_writes g base i v) []) ≡ cond (x && to_open g base i v) (opened 0 i.branch (texts g base i v) g.moment ∷ []) []) [
+      | true ↦ opens-append (put_writes base.name v.branch (result g base i v)) (ask_writes g base i v)
+          ∙ ap (λ l. l ++ opens (ask_writes g base i v)) (opens_put base.name (has v.branch (result g base i v)) (result g base i v))
+          ∙ opens_request base.name (to_open g base i v) g.moment i.branch v.live (texts g base i v) (opens_none v.live)
       | false ↦ refl
     ]
   where

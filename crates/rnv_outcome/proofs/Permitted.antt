@@ -51,6 +51,7 @@ result_name g repo j = go (view g repo j).branch refl
     either : (t : Bool) (b : Branch) → bytes_eq b.name j.branch ≡ true → bytes_eq (cond t (content (base_of repo) j) b).name j.branch ≡ true
     either true b h = bytes_refl j.branch
     either false b h = h
+
     go : (o : Option Branch) → (view g repo j).branch ≡ o → bytes_eq (result_over g (base_of repo) j (view g repo j).ticked o).name j.branch ≡ true
     go None is = bytes_refl j.branch
     go (Some b) is = either _ b (key_at name_of j.branch repo.branches b (sym (view_branch g repo j) ∙ is))

@@ -21,19 +21,19 @@ use Rattle.rnv_outcome.proofs.Permitted.{alone, item_found, may_put, result_name
 use Rattle.rnv_outcome.proofs.Requests.{map-same}
 use Rattle.rnv_outcome.proofs.Views.{KeepsAway, changed, put_away, put_here}
 use Rattle.rnv_outcome.proofs.Written.{Agree, after_put, put_is_content, with_branch}
-use Rattle.rnv_outcome.specs.Content.{base_of, result, texts}
+use Rattle.rnv_outcome.specs.Content.{base_of, result}
 use Rattle.rnv_outcome.specs.Given.{Given}
 use Rattle.rnv_outcome.specs.Law.{IsFit}
-use Rattle.rnv_outcome.specs.Limits.{is_chosen, to_open}
+use Rattle.rnv_outcome.specs.Limits.{is_chosen}
 use Rattle.rnv_outcome.specs.Outcome.{requests_from, settle, settled}
 use Rattle.rnv_outcome.specs.Same.{has}
 use Rattle.rnv_outcome.specs.Steps.{cleanup, finish, is_wanted_name, wanted_over}
 use Rattle.rnv_outcome.specs.Views.{view}
-use Rattle.rnv_outcome.specs.Work.{is_worked, request_writes, todo, todo_of, todos, work_order}
+use Rattle.rnv_outcome.specs.Work.{ask_writes, is_worked, todo, todo_of, todos, work_order}
 
 pub put_next : (g : Given) (repo : Repo) (w : Write) (ws : List Write) → IsFit g → IsSound repo → cleanup g repo ≡ [] → todos g repo ≡ w ∷ ws → (k : Head (todo_of g repo) (work_order g repo) w ws)
     → is_worked g (is_chosen g repo k.e) k.e (view g repo k.e) ≡ true → has (view g repo k.e).branch (result g (base_of repo) k.e (view g repo k.e)) ≡ false → (b : Branch) → b ≡ result g (base_of repo) k.e (view g repo k.e) → w ≡ PutBranch repo.name b
-    → k.us ≡ request_writes repo.name (to_open g (base_of repo) k.e (view g repo k.e)) g.moment k.e.branch (view g repo k.e).live (texts g (base_of repo) k.e (view g repo k.e))
+    → k.us ≡ ask_writes g (base_of repo) k.e (view g repo k.e)
     → Next g repo (PutBranch repo.name b) (ws ++ finish g repo) (applied_in (PutBranch repo.name b) repo)
 put_next g repo w ws fit sound none all k work lacks b is w_is us_is =
     let e = k.e in
@@ -47,19 +47,19 @@ put_next g repo w ws fit sound none all k work lacks b is w_is us_is =
     let d = is_chosen g (changed repo bs rs) e in
     let a = after_put g (base_of repo) (is_chosen g repo e) d e (view g repo e) (alone g repo sound e) lacks work in
     let keeps : Keeps g repo bs rs e k.us = record {
-              found = found;
-              away = away;
-              chooses = chooses;
-              agree = subst (Agree g (base_of repo) (is_chosen g repo e) d e (view g repo e)) (sym here) a.same;
-              todo = ap (todo g (base_of repo) d e) here ∙ a.todo ∙ sym us_is;
-            } in
+      found = found;
+      away = away;
+      chooses = chooses;
+      agree = subst (Agree g (base_of repo) (is_chosen g repo e) d e (view g repo e)) (sym here) a.same;
+      todo = ap (todo g (base_of repo) d e) here ∙ a.todo ∙ sym us_is;
+    } in
     let todos_is = todos_after g repo bs rs w ws fit k keeps in
     let wanted_e : is_wanted_name g repo b.name ≡ true = ap (is_wanted_name g repo) (bytes_true b.name e.branch name) ∙ ap (wanted_over g repo) found ∙ (worked g (base_of repo) (is_chosen g repo e) e (view g repo e) work).wanted in
     let settled_same : (r : Request) → settled g (changed repo bs rs) r ≡ settled g repo r = λ r.
-              elim (is_live_on e.branch r) as (λ t. is_live_on e.branch r ≡ t → settled g (changed repo bs rs) r ≡ settled g repo r) [
-                | true ↦ λ l. settled_here g (changed repo bs rs) e r found l ∙ ap (λ v. settle g (base_of repo) d e v r) here ∙ a.settle r ∙ sym (settled_here g repo e r found l)
-                | false ↦ λ l. settled_away g repo bs rs e.branch away chooses r l
-              ] refl in
+    elim (is_live_on e.branch r) as (λ t. is_live_on e.branch r ≡ t → settled g (changed repo bs rs) r ≡ settled g repo r) [
+      | true ↦ λ l. settled_here g (changed repo bs rs) e r found l ∙ ap (λ v. settle g (base_of repo) d e v r) here ∙ a.settle r ∙ sym (settled_here g repo e r found l)
+      | false ↦ λ l. settled_away g repo bs rs e.branch away chooses r l
+    ] refl in
     next_of g repo bs rs [] ws (PutBranch repo.name b) (may_put g repo e b fit sound found (is ∙ put_is_content g (base_of repo) e (view g repo e).ticked (view g repo e).branch lacks)) (record {
       cleanup = cleanup_after g repo bs rs e k.us keeps (all_put name_of _ b repo.branches wanted_e (wanted_all g repo none));
       todos = todos_is;
@@ -70,4 +70,3 @@ put_next g repo w ws fit sound none all k work lacks b is w_is us_is =
           ∙ ap (λ l. map (settled g repo) rs ++ requests_from (next_number rs) l) (sym (ap opens all ∙ ap (λ w. opens (w ∷ ws)) w_is))
           ∙ sym (requests_is g repo);
     })
-

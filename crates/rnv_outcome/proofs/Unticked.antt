@@ -18,7 +18,7 @@ use Rattle.rnv_outcome.specs.Outcome.{news, settle}
 use Rattle.rnv_outcome.specs.Same.{has, same_texts}
 use Rattle.rnv_outcome.specs.Texts.{editing, opened, opening, texts_of, with_texts}
 use Rattle.rnv_outcome.specs.Views.{View, is_blocked, is_touched, is_wanted}
-use Rattle.rnv_outcome.specs.Work.{is_worked, is_worked_over, put_writes, request_writes, target, todo}
+use Rattle.rnv_outcome.specs.Work.{ask_writes, is_worked, is_worked_over, put_writes, request_writes, target, todo}
 use Rattle.rnv_outcome.specs.declared.item.Item.{Item}
 
 abbrev pub untick : View → View
@@ -34,12 +34,12 @@ pub record Done (g : Given) (base : Base) (d : Bool) (i : Item) (u : View) (r : 
 pub done : (g : Given) (base : Base) (d : Bool) (i : Item) (u : View) (r : Request) → is_wanted i u ≡ true → u.branch ≡ Some (result g base i u) → u.live ≡ Some r → texts_of r ≡ texts g base i u → Done g base d i u r
 done g base d i u r w b l t =
     let p : put_writes base.name u.branch (result g base i u) ≡ [] = ap (λ x. cond x [] (PutBranch base.name (result g base i u) ∷ [])) (has-same u.branch (result g base i u) b) in
-    let q : request_writes base.name (to_open g base i u) g.moment i.branch u.live (texts g base i u) ≡ [] =
-            ap (λ l. request_writes base.name (to_open g base i u) g.moment i.branch l (texts g base i u)) l
-            ∙ ap (λ x. cond x [] (editing base.name r.number (texts g base i u) ∷ [])) (ap (λ x. same_texts x (texts g base i u)) t ∙ same_texts-refl (texts g base i u)) in
+    let q : ask_writes g base i u ≡ [] =
+    ap (λ l. request_writes base.name (to_open g base i u) g.moment i.branch l (texts g base i u)) l
+    ∙ ap (λ x. cond x [] (editing base.name r.number (texts g base i u) ∷ [])) (ap (λ x. same_texts x (texts g base i u)) t ∙ same_texts-refl (texts g base i u)) in
     record {
       target = ap (λ x. cond x (cond (is_worked g d i u) (Some (result g base i u)) u.branch) None) w ∙ ap (λ o. cond (is_worked g d i u) (Some (result g base i u)) o) b ∙ cond_same _ (Some (result g base i u));
-      todo = ap (λ x. cond (is_worked g d i u) (x ++ request_writes base.name (to_open g base i u) g.moment i.branch u.live (texts g base i u)) []) p ∙ ap (λ x. cond (is_worked g d i u) x []) q ∙ cond_same _ [];
+      todo = ap (λ x. cond (is_worked g d i u) (x ++ ask_writes g base i u) []) p ∙ ap (λ x. cond (is_worked g d i u) x []) q ∙ cond_same _ [];
       settle = ap (λ x. cond x (cond (is_worked g d i u) (with_texts (texts g base i u) r) r) (autoclosed r)) w
           ∙ ap (λ x. cond (is_worked g d i u) (with_texts x r) r) (sym t) ∙ cond_same _ r;
       news = ap (λ l. cond (is_worked g d i u && is_none l) (opened 0 i.branch (texts g base i u) g.moment ∷ []) []) l
@@ -54,7 +54,7 @@ pub record Has (g : Given) (base : Base) (i : Item) (v : View) : Type 0 where
 
 pub done_of : (g : Given) (base : Base) (c : Bool) (i : Item) (v : View) → is_worked g c i v ≡ true → todo g base c i v ≡ [] → Has g base i v
 done_of g base c i v w e =
-    let n = no_append (put_writes base.name v.branch (result g base i v)) (request_writes base.name (to_open g base i v) g.moment i.branch v.live (texts g base i v)) (sym (worked g base c i v w).todo ∙ e) in
+    let n = no_append (put_writes base.name v.branch (result g base i v)) (ask_writes g base i v) (sym (worked g base c i v w).todo ∙ e) in
     record {
       branch = has-true v.branch (result g base i v) (no_put (has v.branch (result g base i v)) n.0);
       says = λ r l. no_edit r (same_texts (texts_of r) (texts g base i v)) refl (sym (ap (λ l. request_writes base.name (to_open g base i v) g.moment i.branch l (texts g base i v)) l) ∙ n.1);
@@ -64,9 +64,11 @@ done_of g base c i v w e =
     no_put : (t : Bool) → cond t [] (PutBranch base.name (result g base i v) ∷ []) ≡ [] → t ≡ true
     no_put true h = refl
     no_put false h = cc
+
     no_edit : (r : Request) (t : Bool) → same_texts (texts_of r) (texts g base i v) ≡ t → cond t [] (editing base.name r.number (texts g base i v) ∷ []) ≡ [] → texts_of r ≡ texts g base i v
     no_edit r true is h = same_texts-true (texts_of r) (texts g base i v) is
     no_edit r false is h = cc
+
     no_open : (t : Bool) → cond t (opening base.name 0 i.branch (texts g base i v) g.moment ∷ []) [] ≡ [] → t ≡ false
     no_open true h = cc
     no_open false h = refl
@@ -146,6 +148,5 @@ after_end g base c d i v h e =
     elim v.ticked as (λ x. v.ticked ≡ x → AfterEnd g base c d i v (untick v)) [
       | true ↦ λ t. end_ticked g base c d i v t e
       | false ↦ λ t. subst (AfterEnd g base c d i v) (sym (untick_none v t))
-            (subst (λ d. AfterEnd g base c d i v v) (sym (h t)) (record { same = record { wanted = refl; target = refl }; todo = e; settle = λ r _. refl }))
+          (subst (λ d. AfterEnd g base c d i v v) (sym (h t)) (record { same = record { wanted = refl; target = refl }; todo = e; settle = λ r _. refl }))
     ] refl
-

@@ -1,5 +1,5 @@
 -- The steps of small cases: three packages of one file, each with an update.
-use Rattle.std.proofs.Common.{◌≡◌, ℕ, true, false, List, [], ◌∷◌, ◌++◌, None, refl}
+use Rattle.std.proofs.Common.{◌≡◌, ℕ, true, false, List, [], ◌∷◌, ◌++◌, Option, None, Some, refl}
 use Rattle.std.specs.Prelude.{codes, pos}
 use Rattle.rnv_base.specs.Files.{NamedFile}
 use Rattle.rnv_base.specs.declared.kinds.ManagerKind.TheVariants as manager
@@ -7,10 +7,12 @@ use Rattle.rnv_base.specs.declared.kinds.SourceKind.TheVariants as source
 use Rattle.rnv_base.specs.declared.kinds.UpdateKind.TheVariants.{Minor}
 use Rattle.rnv_forge.specs.declared.branch.Key.{Key}
 use Rattle.rnv_forge.specs.declared.repo.Repo.{Repo}
+use Rattle.rnv_forge.specs.declared.request.Request.{Request}
+use Rattle.rnv_forge.specs.declared.request.RequestState.TheVariants.{Closed}
 use Rattle.rnv_forge.specs.declared.write.Write.{Write}
 use Rattle.rnv_forge.specs.declared.write.Write.TheVariants.{PutBranch, DropBranch, Autoclose, Finish}
 use Rattle.rnv_outcome.specs.declared.item.Item.{Item}
-use Rattle.rnv_outcome.specs.declared.item.ItemEdits.TheVariants.{Plain}
+use Rattle.rnv_outcome.specs.declared.item.ItemEdits.TheVariants.{Plain, Errored}
 use Rattle.rnv_outcome.specs.Content.{is_behind}
 use Rattle.rnv_outcome.specs.Given.{Given}
 use Rattle.rnv_outcome.specs.Given.Rebase.{Conflicted}
@@ -20,7 +22,7 @@ use Rattle.rnv_outcome.specs.Limits.{is_chosen}
 use Rattle.rnv_outcome.specs.Outcome.{outcome_requests}
 use Rattle.rnv_outcome.specs.Same.{same_keys, same_files, same_branch, same_texts, same_page}
 use Rattle.rnv_outcome.specs.Steps.{steps, cleanup, finish}
-use Rattle.rnv_outcome.specs.Texts.{opening}
+use Rattle.rnv_outcome.specs.Texts.{opening, editing}
 use Rattle.rnv_outcome.specs.Views.{view}
 use Rattle.rnv_outcome.specs.Work.{todos}
 use Rattle.rnv_pick.specs.declared.update.Update.{Update}
@@ -146,3 +148,77 @@ updated = record (after_in (put_of 0 a ∷ open_of 1 a ∷ put_of 0 b ∷ open_o
 first_updated : steps (given (item b ∷ [])) updated ≡ Autoclose repo 1 ∷ DropBranch repo (branch_of a) ∷ put_of 1 b ∷ Finish repo None ∷ []
 unfolding steps cleanup todos finish view is_chosen outcome_requests is_errored keys_of files_of problem_of is_behind same_keys same_files same_branch same_texts same_page
 first_updated = refl
+
+-- two requests in an hour: the third item waits, also after a stop before the second request
+
+abbrev limited : Given
+limited = record all_three { hourly = 2 }
+
+two_made : steps limited (base 0) ≡ put_of 0 a ∷ open_of 1 a ∷ put_of 0 b ∷ open_of 2 b ∷ Finish repo None ∷ []
+unfolding steps cleanup todos finish view is_chosen outcome_requests is_errored keys_of files_of problem_of is_behind same_keys same_files same_branch same_texts same_page
+two_made = refl
+
+stopped_before_request : steps limited (after_in (put_of 0 a ∷ open_of 1 a ∷ put_of 0 b ∷ []) (base 0)) ≡ open_of 2 b ∷ Finish repo None ∷ []
+unfolding steps cleanup todos finish view is_chosen outcome_requests is_errored keys_of files_of problem_of is_behind same_keys same_files same_branch same_texts same_page
+stopped_before_request = refl
+
+-- a user closed the first request: its branch goes, and does not come back
+
+abbrev run_once : Repo
+run_once = after_in (steps all_three (base 0)) (base 0)
+
+abbrev closed_first : List Request → List Request
+closed_first [] = []
+closed_first (r ∷ rs) = record r { state = Closed } ∷ rs
+
+abbrev closed_once : Repo
+closed_once = record run_once { requests = closed_first run_once.requests; due = true }
+
+blocked : steps all_three closed_once ≡ DropBranch repo (branch_of a) ∷ Finish repo None ∷ []
+unfolding steps cleanup todos finish view is_chosen outcome_requests is_errored keys_of files_of problem_of is_behind same_keys same_files same_branch same_texts same_page
+blocked = refl
+
+blocked_again : steps all_three (after_in (steps all_three closed_once) closed_once) ≡ []
+unfolding steps cleanup todos finish view is_chosen outcome_requests is_errored keys_of files_of problem_of is_behind same_keys same_files same_branch same_texts same_page
+blocked_again = refl
+
+-- a tick opens it again, in front of the others and beyond the limit; the page that is written has no tick
+
+abbrev one_tick : Option (List ℕ) → List (List ℕ)
+one_tick None = []
+one_tick (Some []) = []
+one_tick (Some (n ∷ ns)) = (n ∷ ns) ∷ []
+
+abbrev ticking : Given
+ticking = record all_three { hourly = 3; ticks = one_tick; page = λ branches requests. Some [] }
+
+abbrev ticked : Repo
+ticked = record (after_in (steps all_three closed_once) closed_once) { page = Some (branch_of a); due = true }
+
+ticked_again : steps ticking ticked ≡ put_of 0 a ∷ open_of 4 a ∷ Finish repo (Some []) ∷ []
+unfolding steps cleanup todos finish view is_chosen outcome_requests is_errored keys_of files_of problem_of is_behind same_keys same_files same_branch same_texts same_page
+ticked_again = refl
+
+-- an item whose file was not read back loses its request and its branch
+
+abbrev errored : Item
+errored = record (item b) { edits = Errored path (codes "1.1.0") [] }
+
+not_read_back : steps (given (item a ∷ errored ∷ item c ∷ [])) run_once ≡ Autoclose repo 2 ∷ DropBranch repo (branch_of b) ∷ []
+unfolding steps cleanup todos finish view is_chosen outcome_requests is_errored keys_of files_of problem_of is_behind same_keys same_files same_branch same_texts same_page
+not_read_back = refl
+
+-- another title alone: the request is edited, and the branch stays
+
+retitled : steps (given (record (item a) { title = c } ∷ item b ∷ item c ∷ [])) run_once ≡ editing repo 1 (record { updates = keys a; title = c; body = a; labels = [] }) ∷ []
+unfolding steps cleanup todos finish view is_chosen outcome_requests is_errored keys_of files_of problem_of is_behind same_keys same_files same_branch same_texts same_page
+retitled = refl
+
+-- not scheduled: no new item is made, and a branch is left alone
+
+abbrev resting : List ℕ → Item
+resting name = record (item name) { scheduled = false; title = c }
+
+not_scheduled : steps (given (resting a ∷ item b ∷ resting c ∷ [])) (after_in (put_of 0 a ∷ open_of 1 a ∷ []) (base 0)) ≡ put_of 0 b ∷ open_of 2 b ∷ Finish repo None ∷ []
+unfolding steps cleanup todos finish view is_chosen outcome_requests is_errored keys_of files_of problem_of is_behind same_keys same_files same_branch same_texts same_page
+not_scheduled = refl

@@ -31,10 +31,10 @@ work_next g repo w ws fit sound none all =
         → NextAs g repo w (ws ++ finish g repo)
     go k work (Puts has w_is us_is) =
         subst (λ x. NextAs g repo x (ws ++ finish g repo)) (sym w_is)
-            (put_next g repo w ws fit sound none all k work has (result g (base_of repo) k.e (view g repo k.e)) refl w_is us_is)
+        (put_next g repo w ws fit sound none all k work has (result g (base_of repo) k.e (view g repo k.e)) refl w_is us_is)
     go k work (Opens b l opens w_is us_is) =
         subst (λ x. NextAs g repo x (ws ++ finish g repo)) (sym w_is)
-            (open_next g repo w ws fit sound none all k work (texts g (base_of repo) k.e (view g repo k.e)) refl b l opens w_is us_is)
+        (open_next g repo w ws fit sound none all k work (texts g (base_of repo) k.e (view g repo k.e)) refl b l opens w_is us_is)
     go k work (Edits r b l w_is us_is) =
         subst (λ x. NextAs g repo x (ws ++ finish g repo)) (sym w_is)
-            (edit_next g repo w ws fit sound none all k work (texts g (base_of repo) k.e (view g repo k.e)) refl r b l w_is us_is)
+        (edit_next g repo w ws fit sound none all k work (texts g (base_of repo) k.e (view g repo k.e)) refl r b l w_is us_is)

@@ -16,7 +16,7 @@ use Rattle.rnv_outcome.specs.Outcome.{news, settle}
 use Rattle.rnv_outcome.specs.Same.{has, same_branch, same_texts}
 use Rattle.rnv_outcome.specs.Texts.{editing, opened, texts_of, with_texts}
 use Rattle.rnv_outcome.specs.Views.{View, is_touched, is_wanted}
-use Rattle.rnv_outcome.specs.Work.{is_worked, is_worked_over, put_writes, request_writes, target, todo}
+use Rattle.rnv_outcome.specs.Work.{ask_writes, is_worked, is_worked_over, put_writes, request_writes, target, todo}
 use Rattle.rnv_outcome.specs.declared.item.Item.{Item}
 
 result_again : (g : Given) (base : Base) (i : Item) (t : Bool) (o : Option Branch) → result_over g base i t (Some (result_over g base i t o)) ≡ result_over g base i t o
@@ -66,7 +66,7 @@ to_open_put g base i v lacks = refl
 
 pub record AfterPut (g : Given) (base : Base) (c d : Bool) (i : Item) (v : View) : Type 0 where
   pub same : Agree g base c d i v (with_branch v (result g base i v))
-  pub todo : todo g base d i (with_branch v (result g base i v)) ≡ request_writes base.name (to_open g base i v) g.moment i.branch v.live (texts g base i v)
+  pub todo : todo g base d i (with_branch v (result g base i v)) ≡ ask_writes g base i v
   pub settle : (r : Request) → settle g base d i (with_branch v (result g base i v)) r ≡ settle g base c i v r
   pub news : news g base d i (with_branch v (result g base i v)) ≡ news g base c i v
 

@@ -35,12 +35,13 @@ abbrev pub request_writes : List ℕ → Bool → ℕ → List ℕ → Option Re
 request_writes repo new moment branch None t = if new then opening repo 0 branch t moment ∷ [] else []
 request_writes repo new moment branch (Some r) t = if same_texts (texts_of r) t then [] else editing repo r.number t ∷ []
 
+abbrev pub ask_writes : Given → Base → Item → View → List Write
+ask_writes g base i v = request_writes base.name (to_open g base i v) g.moment i.branch v.live (texts g base i v)
+
+-- all that is written for an item
 abbrev pub todo : Given → Base → Bool → Item → View → List Write
 todo g base chosen i v =
-    if is_worked g chosen i v
-    then put_writes base.name v.branch (result g base i v)
-    ++ request_writes base.name (to_open g base i v) g.moment i.branch v.live (texts g base i v)
-    else []
+    if is_worked g chosen i v then put_writes base.name v.branch (result g base i v) ++ ask_writes g base i v else []
 
 abbrev pub todo_of : Given → Repo → Item → List Write
 todo_of g repo i = todo g (base_of repo) (is_chosen g repo i) i (view g repo i)
