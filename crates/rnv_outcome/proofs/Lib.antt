@@ -10,6 +10,7 @@ pub mod Made
 pub mod Named
 pub mod Next
 pub mod OneWrite
+pub mod OnePass
 pub mod Opens
 pub mod Permitted
 pub mod Puts
