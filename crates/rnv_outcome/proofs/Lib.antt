@@ -1,5 +1,6 @@
 pub mod Asks
 pub mod Cleans
+pub mod Contents
 pub mod Counts
 pub mod Ends
 pub mod Found

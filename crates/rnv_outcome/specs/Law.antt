@@ -1,5 +1,5 @@
 -- The law of one write: a run that was stopped after any of its writes, and is run again, makes the rest.
-use Rattle.std.specs.Prelude.{◌≡◌, ◌↔◌, ℕ, ◌+◌, ◌<◌, false, List, [], ◌∷◌, ◌++◌, length, Option, None, Some}
+use Rattle.std.specs.Prelude.{◌≡◌, ◌≢◌, ◌↔◌, ℕ, ◌+◌, ◌<◌, false, List, [], ◌∷◌, ◌++◌, length, Option, None, Some}
 use Rattle.std.specs.List.{AllByRecursion}
 use Rattle.std.specs.Str.{bytes_eq}
 use Rattle.rnv_forge.specs.declared.branch.Branch.{Branch}
@@ -46,12 +46,13 @@ AreNext (w ∷ ws) repo = IsNext w repo × AreNext ws (applied_in w repo)
 abbrev pub HasNumbers : Repo → ℕ → Type 0
 HasNumbers repo n = greatest repo.requests + n < 2147483648
 
--- The first write is permitted, and after it the repository is sound, the steps are those that are left, and the outcome is
--- the old one.
+-- The first write is permitted and changes something, and after it the repository is sound, the steps are those that are
+-- left, and the outcome is the old one.
 pub record LawOfOneWrite (g : Given) (repo : Repo) (w : Write) (ws : List Write) : Type 0 where
   pub next : IsNext w repo
   pub sound : IsSound (applied_in w repo)
   pub steps : steps g (applied_in w repo) ≡ ws
+  pub changes : applied_in w repo ≢ repo
   pub numbers : HasNumbers repo (length (w ∷ ws)) → HasNumbers (applied_in w repo) (length ws)
   pub outcome : (out : Repo) → IsOutcome g (applied_in w repo) out ↔ IsOutcome g repo out
 

@@ -4,6 +4,7 @@ pub mod Items
 pub mod Law
 pub mod Limits
 pub mod Outcome
+pub mod Puts
 pub mod Same
 pub mod Steps
 pub mod Texts

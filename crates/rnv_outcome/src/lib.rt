@@ -6,4 +6,4 @@ mod item;
 mod law;
 
 pub use item::{Item, ItemEdits};
-pub use law::resumption;
+pub use law::{puts_content, resumption};
