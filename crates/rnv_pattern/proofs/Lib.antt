@@ -6,3 +6,6 @@ pub mod Ranges
 pub mod Rows
 pub mod Cuts
 pub mod Each
+pub mod Between
+
+pub mod Several

@@ -1,3 +1,5 @@
+pub mod Building
 pub mod Globs
+pub mod Patterns
 pub mod Reading
 pub mod Search

@@ -1,9 +1,9 @@
 ghost use Rattle.std.specs.Prelude.{◌≡◌, ◌<◌, ◌++◌, ◌==◌, length, map, option_map, IfOk, IfSome, OnOk, IsErrOf, List as Items, ℕ, ◌≤◌, ◌*◌, ◌↔◌, IsTrue, None, Some};
 ghost use Rattle.std.specs.List.{slice_split};
-ghost use Rattle.rnv_pattern.specs.declared.part.PatternError.TheVariants.{BadGlob};
+ghost use Rattle.rnv_pattern.specs.declared.part.GlobError.TheVariants.{BadGlob};
 ghost use Rattle.rnv_pattern.specs.Reading.{choices, cut, globs, joined};
 
-use crate::part::PatternError;
+use crate::part::GlobError;
 use rnv_base::{List, Text};
 use std::alloc::{AllocError, Global};
 use std::convert::{AsSlice, AsStr};
@@ -21,7 +21,7 @@ fn first_piece(text: &str, at: char) -> (&str, Option<&str>)
 }
 
 // The two texts, one behind the other.
-fn glued(alloc: Global, front: &str, end: &str) -> Result<Text, AllocError>
+pub fn glued(alloc: Global, front: &str, end: &str) -> Result<Text, AllocError>
     ensures { IfOk result (λ text. text ≡ front.now ++ end.now) }
 {
     let mut text = String::from_str(alloc, front)?;
@@ -46,13 +46,13 @@ fn alternatives(alloc: Global, inside: &str, end: &str) -> Result<List<Text>, Al
 }
 
 // What may stand behind a `{`, up to the next one.
-fn choices(alloc: Global, piece: &str) -> Result<List<Text>, PatternError>
+fn choices(alloc: Global, piece: &str) -> Result<List<Text>, GlobError>
     ensures read { IfOk result (λ texts. choices piece.now ≡ Some texts) }
     ensures refused { IsErrOf result BadGlob → choices piece.now ≡ None }
 {
     let (inside, end) = first_piece(piece, '}');
     let Some(end) = end else {
-        return Err(PatternError::BadGlob);
+        return Err(GlobError::BadGlob);
     };
     Ok(alternatives(alloc, inside, end)?)
 }
@@ -94,7 +94,7 @@ fn are_few(fronts: usize, ends: usize) -> bool
 }
 
 // The globs without braces that the text stands for: 256 at most.
-pub fn globs(alloc: Global, text: &str) -> Result<List<Text>, PatternError>
+pub fn globs(alloc: Global, text: &str) -> Result<List<Text>, GlobError>
     ensures read { IfOk result (λ texts. (globs text.now ≡ Some texts) × (length texts ≤ 256)) }
     ensures refused { IsErrOf result BadGlob → (texts : Items (Items ℕ)) → globs text.now ≡ Some texts → 256 < length texts }
 {
@@ -112,7 +112,7 @@ pub fn globs(alloc: Global, text: &str) -> Result<List<Text>, PatternError>
             Err(error) => return Err(error),
         };
         if !are_few(texts.len(), ends.len()) {
-            return Err(PatternError::BadGlob);
+            return Err(GlobError::BadGlob);
         }
         texts = joined(alloc, texts.as_slice(), ends.as_slice())?;
         let Some(more) = more else {

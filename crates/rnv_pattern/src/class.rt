@@ -3,7 +3,7 @@ ghost use Rattle.std.specs.Str.{chars};
 ghost use Rattle.rnv_pattern.specs.Reading.{Gives, behind, only, class_inside, class_of, range_end, ranges_of};
 
 use crate::matching::split_char;
-use crate::part::{Part, PatternError, Range, Single};
+use crate::part::{Part, GlobError, Range, Single};
 use rnv_base::List;
 use std::alloc::Global;
 
@@ -21,20 +21,20 @@ fn range_end(text: &str) -> Option<(char, &str)>
 }
 
 // Adds the ranges up to `]`, and gives what follows it.
-pub fn read_ranges<'a>(text: &'a str, ranges: &mut List<Range>) -> Result<&'a str, PatternError>
+pub fn read_ranges<'a>(text: &'a str, ranges: &mut List<Range>) -> Result<&'a str, GlobError>
     ensures value { Gives ranges.new result (behind ranges.old (ranges_of (chars text.now))) }
     ensures shorter { IfOk result (λ rest. length rest.now < length text.now) }
 {
     let mut rest = text;
     loop {
         let Some((first, tail)) = split_char(rest) else {
-            return Err(PatternError::BadGlob);
+            return Err(GlobError::BadGlob);
         };
         if first == ']' {
             return Ok(tail);
         }
         match range_end(tail) {
-            Some((last, _)) if last < first => return Err(PatternError::BadGlob),
+            Some((last, _)) if last < first => return Err(GlobError::BadGlob),
             Some((last, others)) => {
                 ranges.push(Range { first, last })?;
                 rest = others;
@@ -63,7 +63,7 @@ pub fn read_class<'a>(
     alloc: Global,
     text: &'a str,
     parts: &mut List<Part>,
-) -> Result<&'a str, PatternError>
+) -> Result<&'a str, GlobError>
     ensures value { Gives parts.new result (behind parts.old (only (class_of (chars text.now)))) }
     ensures shorter { IfOk result (λ rest. length rest.now < length text.now) }
 {
@@ -71,7 +71,7 @@ pub fn read_class<'a>(
     let mut ranges = List::empty(alloc);
     let rest = read_ranges(inside, &mut ranges)?;
     if ranges.is_empty() {
-        return Err(PatternError::BadGlob);
+        return Err(GlobError::BadGlob);
     }
     parts.push(Part::Single(Single::Class { negated, ranges }))?;
     Ok(rest)

@@ -1,12 +1,12 @@
 ghost use Rattle.std.specs.Prelude.{◌≡◌, ◌↔◌, [], ◌∷◌, ◌<◌, ◌≤◌, List as Items, length, IfOk, IsErrOf, IsTrue};
 ghost use Rattle.std.specs.Str.{chars};
 ghost use Rattle.rnv_pattern.specs.declared.part.Part.{Part as PartValue};
-ghost use Rattle.rnv_pattern.specs.declared.part.PatternError.TheVariants.{BadGlob};
+ghost use Rattle.rnv_pattern.specs.declared.part.GlobError.TheVariants.{BadGlob};
 ghost use Rattle.rnv_pattern.specs.Reading.{Gives, behind, only, after_star, after_stars, part_of, IsReadAs};
 
 use crate::class::read_class;
 use crate::matching::split_char;
-use crate::part::{Part, PatternError, Single};
+use crate::part::{Part, GlobError, Single};
 use rnv_base::List;
 use std::alloc::Global;
 
@@ -54,12 +54,12 @@ fn read_part<'a>(
     alloc: Global,
     text: &'a str,
     parts: &mut List<Part>,
-) -> Result<&'a str, PatternError>
+) -> Result<&'a str, GlobError>
     ensures value { Gives parts.new result (behind parts.old (only (part_of (chars text.now)))) }
     ensures shorter { IfOk result (λ rest. length rest.now < length text.now) }
 {
     let Some((c, rest)) = split_char(text) else {
-        return Err(PatternError::BadGlob);
+        return Err(GlobError::BadGlob);
     };
     match c {
         '*' => {
@@ -80,7 +80,7 @@ fn read_part<'a>(
 }
 
 // The parts of a glob without braces.
-pub fn read_parts(alloc: Global, text: &str) -> Result<List<Part>, PatternError>
+pub fn read_parts(alloc: Global, text: &str) -> Result<List<Part>, GlobError>
     ensures read { IfOk result (λ parts. IsReadAs (chars text.now) parts) }
     ensures refused { IsErrOf result BadGlob → (parts : Items PartValue) → ¬ IsReadAs (chars text.now) parts }
 {

@@ -1,4 +1,4 @@
-use crate::{Glob, PatternError};
+use crate::{Glob, GlobError};
 use std::test::Fail;
 
 // Each form of a glob, a text, and whether it matches.
@@ -74,7 +74,7 @@ fn texts_outside_the_grammar(rt: HostRuntime) {
     ];
     for text in texts {
         let read = Glob::read(rt.alloc(), text);
-        assert!(rt; matches!(&read, Err(PatternError::BadGlob)), "{text}");
+        assert!(rt; matches!(&read, Err(GlobError::BadGlob)), "{text}");
     }
 }
 
@@ -94,7 +94,7 @@ fn so_many_globs(rt: HostRuntime) -> Result<(), Fail> {
     let more = commas(&rt, 256)?;
     assert!(rt; Glob::read(rt.alloc(), most.as_str())?.matches(""));
     let refused = Glob::read(rt.alloc(), more.as_str());
-    assert!(rt; matches!(&refused, Err(PatternError::BadGlob)));
+    assert!(rt; matches!(&refused, Err(GlobError::BadGlob)));
     Ok(())
 }
 
