@@ -7,5 +7,4 @@ pub mod Rows
 pub mod Cuts
 pub mod Each
 pub mod Between
-
 pub mod Several

@@ -18,7 +18,6 @@ pub struct Expression {
 
 impl Model for Expression {
     ghost use Rattle.regex.specs.declared.string.regex.Regex.{Regex};
-
     ghost use Rattle.regex.specs.contracts.string.regex.Regex.{the_row as regex_row};
 
     ghost Value = { Regex };

@@ -18,7 +18,6 @@ pub struct PatternList {
 impl Model for PatternList {
     ghost use Rattle.std.specs.Prelude.{List as Items};
     ghost use Rattle.rnv_pattern.specs.declared.pattern.Pattern.{Pattern as PatternValue};
-
     ghost use Rattle.std.specs.Coded.{coded_list};
     ghost use Rattle.rnv_pattern.specs.contracts.pattern.Pattern.{the_row as pattern_row};
 

@@ -1,4 +1,5 @@
-use crate::{Glob, GlobError};
+use crate::{Glob, GlobError, MemBuilder, Pattern, PatternError, PatternList};
+use rnv_base::{List, Share};
 use std::test::Fail;
 
 // Each form of a glob, a text, and whether it matches.
@@ -118,5 +119,131 @@ fn many_wildcards(rt: HostRuntime) -> Result<(), Fail> {
     }
     assert!(rt; !Glob::read(rt.alloc(), stars.as_str())?.matches(letters.as_str()));
     assert!(rt; !Glob::read(rt.alloc(), folders.as_str())?.matches(path.as_str()));
+    Ok(())
+}
+
+// A pattern, a text, and whether it matches before negation.
+#[test]
+fn patterns_match(rt: HostRuntime) -> Result<(), Fail> {
+    let cases = [
+        ("/^a/i", "Ab", true),
+        ("/^a/i", "ba", false),
+        ("/^a/", "Ab", false),
+        ("/b+/", "abbc", true),
+        ("!/b+/", "abbc", true),
+        ("//", "x", true),
+        ("//i", "", true),
+        ("/", "/", true),
+        ("/", "x", false),
+        ("/i", "/I", true),
+        ("/a/x", "/A/x", true),
+        ("/a/i/", "a/i", true),
+        ("/^.$/", "é", true),
+        ("/É/i", "é", true),
+        ("!a*", "ab", true),
+        ("!!a", "!a", true),
+        ("!", "", true),
+    ];
+    let mut engines = MemBuilder::new(rt.alloc(), List::empty(rt.alloc()));
+    for (text, on, wanted) in cases {
+        let pattern = Pattern::read(rt.alloc(), &mut engines, text)?;
+        assert_eq!(rt; pattern.matches(rt.alloc(), on)?, wanted, "{text} on {on}");
+        assert_eq!(rt; pattern.text(), text);
+    }
+    Ok(())
+}
+
+#[test]
+fn whole_expressions_match(rt: HostRuntime) -> Result<(), Fail> {
+    let mut engines = MemBuilder::new(rt.alloc(), List::empty(rt.alloc()));
+    for (text, on, wanted) in [
+        ("^tools\\.txt$", "tools.txt", true),
+        ("^tools\\.txt$", "a/tools.txt", false),
+        ("/a/", "x/a/y", true),
+        ("!a", "a", false),
+    ] {
+        let pattern = Pattern::expression(rt.alloc(), &mut engines, text)?;
+        assert_eq!(rt; pattern.matches(rt.alloc(), on)?, wanted, "{text} on {on}");
+        assert!(rt; pattern.built().is_some());
+    }
+    Ok(())
+}
+
+#[test]
+fn texts_that_are_no_patterns(rt: HostRuntime) {
+    let mut engines = MemBuilder::new(rt.alloc(), List::empty(rt.alloc()));
+    for (text, wanted) in [
+        ("a[", PatternError::BadGlob),
+        ("!a[", PatternError::BadGlob),
+        ("/(/", PatternError::BadExpression),
+        ("!/[z-a]/i", PatternError::BadExpression),
+    ] {
+        let read = Pattern::read(rt.alloc(), &mut engines, text);
+        assert!(rt; matches!(&read, Err(error) if *error == wanted), "{text}");
+    }
+    let whole = Pattern::expression(rt.alloc(), &mut engines, "(");
+    assert!(rt; matches!(&whole, Err(PatternError::BadExpression)));
+}
+
+fn list_matches(rt: &HostRuntime, texts: &[&str], on: &str) -> Result<bool, Fail> {
+    let mut engines = MemBuilder::new(rt.alloc(), List::empty(rt.alloc()));
+    let list = PatternList::read(rt.alloc(), &mut engines, texts)?;
+    Ok(list.share(rt.alloc())?.matches(rt.alloc(), on)?)
+}
+
+#[test]
+fn lists_match(rt: HostRuntime) -> Result<(), Fail> {
+    let cases: [(&[&str], &str, bool); 12] = [
+        (&["!@x/b"], "@x/a", true),
+        (&["!@x/b"], "@X/B", false),
+        (&[], "a", true),
+        (&["a"], "b", false),
+        (&["a", "b"], "b", true),
+        (&["a", "!b"], "b", false),
+        (&["a", "!b"], "c", false),
+        (&["*", "!b"], "b", false),
+        (&["*", "!/^B/i"], "bc", false),
+        (&["/^b/", "!bc"], "bd", true),
+        (&["!a", "!b"], "c", true),
+        (&["!a", "!b"], "b", false),
+    ];
+    for (texts, on, wanted) in cases {
+        assert_eq!(rt; list_matches(&rt, texts, on)?, wanted, "{on}");
+    }
+    Ok(())
+}
+
+#[test]
+fn lists_that_are_refused(rt: HostRuntime) {
+    let cases: [(&[&str], PatternError); 3] = [
+        (&["a", "a[", "/(/"], PatternError::BadGlob),
+        (&["!a", "!/(/", "a["], PatternError::BadExpression),
+        (&["/a/", "!{"], PatternError::BadGlob),
+    ];
+    let mut engines = MemBuilder::new(rt.alloc(), List::empty(rt.alloc()));
+    for (texts, wanted) in cases {
+        let read = PatternList::read(rt.alloc(), &mut engines, texts);
+        assert!(rt; matches!(&read, Err(error) if *error == wanted));
+    }
+}
+
+// The engines refuse their second call: a copy asks them for nothing.
+#[test]
+fn copies_are_not_built_again(rt: HostRuntime) -> Result<(), Fail> {
+    let mut failing = List::empty(rt.alloc());
+    failing.push(1)?;
+    let mut engines = MemBuilder::new(rt.alloc(), failing);
+    let copy = {
+        let pattern = Pattern::read(rt.alloc(), &mut engines, "!/^A/i")?;
+        pattern.share(rt.alloc())?
+    };
+    assert_eq!(rt; copy.text(), "!/^A/i");
+    assert!(rt; copy.built().is_some());
+    assert!(rt; copy.matches(rt.alloc(), "ab")?);
+    let again = Pattern::read(rt.alloc(), &mut engines, "!/^A/i");
+    assert!(rt; matches!(&again, Err(PatternError::BadExpression)));
+    let glob = Pattern::read(rt.alloc(), &mut engines, "a?")?.share(rt.alloc())?;
+    assert!(rt; glob.built().is_none());
+    assert!(rt; glob.matches(rt.alloc(), "AB")?);
     Ok(())
 }

@@ -28,9 +28,9 @@ loop-text-preserved g c =
     let asked = subst (λ (t : List ℕ). TookMore (AreExpressions (rule_text t)) (took c.loop-text.engines) (took c.read.new.engines)) c.as_str.ensures c.in-Ok.ensures.took in
     record {
       read = subst (λ (ps : List Pattern). ArePatterns (map g.T.AsStr.text (take (c.loop-text.text-index + 1) c.args.texts.now)) ps) (sym c.in_ok-push-in-Ok.ensures.ok)
-        (subst (λ (ts : List (List ℕ)). ArePatterns ts (c.loop-text.patterns ++ c.in-Ok.pattern ∷ [])) (sym more) (patterns-more _ _ _ _ c.loop-text.invariant.read one));
+          (subst (λ (ts : List (List ℕ)). ArePatterns ts (c.loop-text.patterns ++ c.in-Ok.pattern ∷ [])) (sym more) (patterns-more _ _ _ _ c.loop-text.invariant.read one));
       took = subst (λ (ts : List (List ℕ)). TookMore (AreAllExpressions ts) (took c.args.engines.now) (took c.read.new.engines)) (sym more)
-        (took-more (map g.T.AsStr.text (take c.loop-text.text-index c.args.texts.now)) _ _ _ _ c.loop-text.invariant.took asked);
+          (took-more (map g.T.AsStr.text (take c.loop-text.text-index c.args.texts.now)) _ _ _ _ c.loop-text.invariant.took asked);
       unrefused = c.in-Ok.ensures.unrefused (λ e. cc) ∙ c.loop-text.invariant.unrefused;
       others = c.in-Ok.ensures.others ∙ c.loop-text.invariant.others;
     }
