@@ -1,7 +1,7 @@
 -- What a search for parts learned holds for the parts with one more in front, and for the whole text.
 use Rattle.std.proofs.Common.{◌≡◌, ◌≢◌, ◌+◌, ◌-◌, ◌<◌, ◌^◌, ℕ, zero, suc, Bool, true, false, List, [], ◌∷◌, refl, sym, ap, subst, ◌∙◌, arith, inl, inr, Some, None}
 use Rattle.std.specs.Prelude.{nat_eq, nat_lt, IsTrue, not, ◌||◌, if◌then◌else◌}
-use Rattle.std.proofs.lemmas.Bool.{eqb-true, eqb-false, cond_both, not-true, and_parts}
+use Rattle.std.proofs.lemmas.Bool.{eqb-true, eqb-false, cond_both, false≢true, not-true, and_parts}
 use Rattle.std.proofs.lemmas.Bool.Decides.{nat_tests}
 use Rattle.std.specs.Char.{to_ascii_lowercase}
 use Rattle.rnv_pattern.specs.declared.part.Part.{Part}
@@ -9,9 +9,11 @@ use Rattle.rnv_pattern.specs.declared.part.Part.TheVariants.{Folders, Anything, 
 use Rattle.rnv_pattern.specs.declared.part.Single.{Single}
 use Rattle.rnv_pattern.specs.declared.part.Single.TheVariants.{Any, Char, Class}
 use Rattle.rnv_pattern.specs.declared.matching.Outcome.{Outcome}
-use Rattle.rnv_pattern.specs.declared.matching.Outcome.TheVariants.{Found, Here, Segment, Nowhere}
+use Rattle.rnv_pattern.specs.declared.matching.Outcome.TheVariants.{Found, Here, Slashes, Segment, Nowhere}
+use Rattle.rnv_pattern.specs.declared.matching.Last.{Last}
+use Rattle.rnv_pattern.specs.declared.matching.Last.TheVariants.{Nothing, Slash, Other}
 use Rattle.rnv_pattern.specs.Globs.{fits, in_class, Matches}
-use Rattle.rnv_pattern.specs.Search.{EndsWith, EndsWithin, EndsBehind, AreSpent, Tells, raised, one_more, behind_spent, after_slash}
+use Rattle.rnv_pattern.specs.Search.{EndsWith, EndsWithin, EndsBehind, AreSpent, Tells, raised, settled, last_of, one_more, behind_spent, unmatched, after_slash}
 use Rattle.rnv_pattern.proofs.Ends.{ends-self, within-self, ends-later, within-later, behind-later, behind-ends, within-ends, ends-tail, within-tail, behind-tail, behind-within, slash-behind, slash-parts, slash-first, no_slash-within, no_slash-behind}
 use Rattle.rnv_pattern.proofs.Pieces.{anything-takes, anything-leaves, run-takes, run-leaves, folders-empty, folders-leaves, one-takes, one-leaves, one-parts}
 
@@ -185,15 +187,32 @@ spent-more ps n t h = cond_both (nat_lt (n + 1) (2 ^ 64)) (n + 1) 0 (λ (k : ℕ
     (λ _. let e : n + 1 ≡ suc n = omega arith in subst (λ (k : ℕ). AreSpent ps k t) (sym e) h)
     (λ _. spent-none ps t)
 
+folders-behind : (ps : List Part) (t : List ℕ) → ¬ ((r : List ℕ) × EndsBehind r t × Matches ps r) → (r : List ℕ) → EndsBehind r t → ¬ Matches (Folders ∷ ps) r
+folders-behind ps t fails r e m = elim (folders-leaves ps r m) [ inl h ↦ fails (r, e, h) | inr h ↦ fails (h.0, behind-later h.0 r t h.1 (behind-ends r t e), h.2) ]
+
 pub folders-here : (ps : List Part) (n : ℕ) (t : List ℕ) → Spends ps t → Tells ps t (Here n) → Tells (Folders ∷ ps) t (behind_spent (Here n))
 folders-here ps n t spends told =
     ((λ m. told.0 (spends t (ends-self t) m)), spent-more (Folders ∷ ps) n t (spends, told.1))
+
+-- neither here nor behind a `/`
+pub folders-slashes : (ps : List Part) (n : ℕ) (t : List ℕ) → ¬ ((r : List ℕ) × EndsBehind r t × Matches ps r) → Tells ps t (Here n) → Tells (Folders ∷ ps) t (Slashes (one_more n))
+folders-slashes ps n t fails told =
+    let here = folders-here ps n t (spends-none ps t fails) told in
+    (here.0, folders-behind ps t fails, here.1)
+
+-- what matches neither here nor behind a `/` needs no `**/` in front
+pub folders-known : (ps : List Part) (n : ℕ) (t : List ℕ) → Tells ps t (Slashes n) → Tells (Folders ∷ ps) t (Slashes (one_more n))
+folders-known ps n t told = folders-slashes ps n t (λ m. told.1 m.0 m.1 m.2) (told.0, told.2)
 
 pub folders-segment : (ps : List Part) (n : ℕ) (t : List ℕ) → Spends ps t → Tells ps t (Segment n) → Tells (Folders ∷ ps) t (behind_spent (Segment n))
 folders-segment ps n t spends told = (
   (λ r e m. told.0 r e (spends r (within-ends r t e) m)),
   (λ r e. spent-more (Folders ∷ ps) n r ((λ u w m. spends u (ends-later u r t w (behind-ends r t e)) m), told.1 r e)),
 )
+
+pub folders-unmatched : (ps : List Part) (n : ℕ) (t : List ℕ) → ¬ ((r : List ℕ) × EndsBehind r t × Matches ps r) → Tells ps t (Segment n) → Tells (Folders ∷ ps) t (unmatched n)
+folders-unmatched ps zero t fails told = folders-slashes ps zero t fails (told.0 t (within-self t), spent-none ps t)
+folders-unmatched ps (suc n) t fails told = folders-segment ps (suc n) t (spends-none ps t fails) told
 
 pub folders-nowhere : (ps : List Part) (t : List ℕ) → Tells ps t Nowhere → Tells (Folders ∷ ps) t Nowhere
 folders-nowhere ps t told r e m = elim (folders-leaves ps r m) [
@@ -237,6 +256,15 @@ one-nowhere s ps c t told r e m =
 one-here : (s : Single) (ps : List Part) (c : ℕ) (t : List ℕ) (n : ℕ) → Tells ps t (Here n) → Tells (One s ∷ ps) (c ∷ t) (Here n)
 one-here s ps c t n told = ((λ m. told.0 (one-parts s ps c t m).1), one-spent s ps n c t told.1)
 
+one-slashes : (s : Single) (ps : List Part) (c : ℕ) (t : List ℕ) (n : ℕ) → c ≡ 47 → IsTrue (fits s c) → Tells ps t (Slashes n) → Tells (One s ∷ ps) (c ∷ t) Nowhere
+one-slashes s ps c t n slash f told r e m =
+    let l = one-leaves s ps r m in
+    let w : EndsWith (l.0 ∷ l.1) (c ∷ t) = subst (λ (x : List ℕ). EndsWith x (c ∷ t)) l.2 e in
+    elim w [
+      | inl h ↦ let same : l.1 ≡ t = cc in told.0 (subst (λ (x : List ℕ). Matches ps x) same l.4)
+      | inr h ↦ told.1 l.1 (behind-tail l.1 t (subst (λ (x : ℕ). EndsWith (x ∷ l.1) t) (fits-slash s c l.0 slash f l.3) h)) l.4
+    ]
+
 one-segment : (s : Single) (ps : List Part) (c : ℕ) (t : List ℕ) (n : ℕ) → IsTrue (fits s c) → Tells ps t (Segment n) → Tells (One s ∷ ps) (c ∷ t) (Segment n)
 one-segment s ps c t n f told = (nothing, spent n told.1) where
   nothing : (r : List ℕ) → EndsWithin r (c ∷ t) → ¬ Matches (One s ∷ ps) r
@@ -258,43 +286,74 @@ one-segment s ps c t n f told = (nothing, spent n told.1) where
     | inr h ↦ spent-later ps (suc n) u r (ends-tail d u r q) (known r h)
   ]
 
-one-step : (s : Single) (ps : List Part) (c : ℕ) (t : List ℕ) → IsTrue (fits s c) → (b : Bool) → nat_eq c 47 ≡ b → (o : Outcome) → Tells ps t o → Tells (One s ∷ ps) (c ∷ t) (raised b o)
+here-slash : (s : Single) (ps : List Part) (c : ℕ) (t : List ℕ) (n : ℕ) → c ≡ 47 → Tells ps t (Here n) → Tells (One s ∷ ps) (c ∷ t) (Segment n)
+here-slash s ps c t n slash told =
+    let here = one-here s ps c t n told in (
+      (λ r w m. elim w [ inl h ↦ here.0 (subst (λ (x : List ℕ). Matches (One s ∷ ps) x) h m) | inr h ↦ absurd (h.0 slash) ]),
+      (λ r w. spent-later (One s ∷ ps) n r (c ∷ t) (behind-ends r (c ∷ t) w) here.1),
+    )
+
+-- what was passed last, by whether it is a `/`
+abbrev last_by : Bool → Last
+last_by true = Slash
+last_by false = Other
+
+one-step : (s : Single) (ps : List Part) (c : ℕ) (t : List ℕ) → IsTrue (fits s c) → (b : Bool) → nat_eq c 47 ≡ b → (o : Outcome) → Tells ps t o → Tells (One s ∷ ps) (c ∷ t) (raised b (settled o (last_by b)))
 one-step s ps c t f true e Found told = one-takes s ps c t f told
 one-step s ps c t f false e Found told = one-takes s ps c t f told
 one-step s ps c t f true e Nowhere told = one-nowhere s ps c t told
 one-step s ps c t f false e Nowhere told = one-nowhere s ps c t told
 one-step s ps c t f true e (Segment n) told = one-segment s ps c t n f told
 one-step s ps c t f false e (Segment n) told = one-segment s ps c t n f told
+one-step s ps c t f true e (Here n) told = here-slash s ps c t n (eqb-true c 47 e) told
 one-step s ps c t f false e (Here n) told = one-here s ps c t n told
-one-step s ps c t f true e (Here n) told =
-    let here = one-here s ps c t n told in (
-      (λ r w m. elim w [ inl h ↦ here.0 (subst (λ (x : List ℕ). Matches (One s ∷ ps) x) h m) | inr h ↦ h.0 (eqb-true c 47 e) ]),
-      (λ r w. spent-later (One s ∷ ps) n r (c ∷ t) (behind-ends r (c ∷ t) w) here.1),
-    )
+one-step s ps c t f true e (Slashes n) told = one-slashes s ps c t n (eqb-true c 47 e) f told
+one-step s ps c t f false e (Slashes n) told = one-here s ps c t n (told.0, told.2)
 
-raised-twice : (a b : Bool) (o : Outcome) → raised a (raised b o) ≡ raised (a || b) o
-raised-twice true true Found = refl
-raised-twice true true (Here n) = refl
-raised-twice true true (Segment n) = refl
-raised-twice true true Nowhere = refl
-raised-twice true false Found = refl
-raised-twice true false (Here n) = refl
-raised-twice true false (Segment n) = refl
-raised-twice true false Nowhere = refl
-raised-twice false b o = refl
+-- one step behind others
+raised-twice : (a b : Bool) (last : Last) (o : Outcome) → raised a (settled (raised b (settled o (last_by b))) last) ≡ raised (a || b) (settled o (last_by b))
+raised-twice true true last Found = refl
+raised-twice true true last (Here n) = refl
+raised-twice true true last (Slashes n) = refl
+raised-twice true true last (Segment n) = refl
+raised-twice true true last Nowhere = refl
+raised-twice true false last Found = refl
+raised-twice true false last (Here n) = refl
+raised-twice true false last (Slashes n) = refl
+raised-twice true false last (Segment n) = refl
+raised-twice true false last Nowhere = refl
+raised-twice false true last Found = refl
+raised-twice false true last (Here n) = refl
+raised-twice false true last (Slashes n) = refl
+raised-twice false true last (Segment n) = refl
+raised-twice false true last Nowhere = refl
+raised-twice false false last Found = refl
+raised-twice false false last (Here n) = refl
+raised-twice false false last (Slashes n) = refl
+raised-twice false false last (Segment n) = refl
+raised-twice false false last Nowhere = refl
 
 -- what is learned of the parts and the text that are left holds for the whole
-abbrev pub Carries : List Part → List ℕ → Bool → List Part → List ℕ → Type 0
-Carries parts text slash left here = (o : Outcome) → Tells left here o → Tells parts text (raised slash o)
+abbrev pub Carries : List Part → List ℕ → Bool → Last → List Part → List ℕ → Type 0
+Carries parts text slash last left here = (o : Outcome) → Tells left here o → Tells parts text (raised slash (settled o last))
 
-pub carries-none : (ps : List Part) (t : List ℕ) → Carries ps t false ps t
-carries-none ps t o told = told
+pub carries-none : (ps : List Part) (t : List ℕ) → Carries ps t false Nothing ps t
+carries-none ps t Found told = told
+carries-none ps t (Here n) told = told
+carries-none ps t (Slashes n) told = told
+carries-none ps t (Segment n) told = told
+carries-none ps t Nowhere told = told
 
-pub carries-one : (parts : List Part) (text : List ℕ) (slash : Bool) (s : Single) (ps : List Part) (here : List ℕ) (c : ℕ) (t : List ℕ)
-    → Carries parts text slash (One s ∷ ps) here → here ≡ c ∷ t → IsTrue (fits s c) → (b : Bool) → nat_eq c 47 ≡ b → Carries parts text (slash || b) ps t
-carries-one parts text slash s ps here c t carries e f b same o told =
-    subst (λ (x : Outcome). Tells parts text x) (raised-twice slash b o)
-    (carries (raised b o) (subst (λ (x : List ℕ). Tells (One s ∷ ps) x (raised b o)) (sym e) (one-step s ps c t f b same o told)))
+last-is : (c : ℕ) (b : Bool) → nat_eq c 47 ≡ b → last_by b ≡ last_of c
+last-is c true e = rw e refl
+last-is c false e = rw e refl
+
+pub carries-one : (parts : List Part) (text : List ℕ) (slash : Bool) (last : Last) (s : Single) (ps : List Part) (here : List ℕ) (c : ℕ) (t : List ℕ)
+    → Carries parts text slash last (One s ∷ ps) here → here ≡ c ∷ t → IsTrue (fits s c) → (b : Bool) → nat_eq c 47 ≡ b → Carries parts text (slash || b) (last_of c) ps t
+carries-one parts text slash last s ps here c t carries e f b same o told =
+    let step : Tells (One s ∷ ps) here (raised b (settled o (last_by b))) = subst (λ (x : List ℕ). Tells (One s ∷ ps) x (raised b (settled o (last_by b)))) (sym e) (one-step s ps c t f b same o told) in
+    subst (λ (l : Last). Tells parts text (raised (slash || b) (settled o l))) (last-is c b same)
+    (subst (λ (x : Outcome). Tells parts text x) (raised-twice slash b last o) (carries (raised b (settled o (last_by b))) step))
 
 pub spent-char : (ps : List Part) (n : ℕ) (here : List ℕ) (c : ℕ) (rest : List ℕ) → AreSpent ps n here → here ≡ c ∷ rest → AreSpent ps n rest
 spent-char ps n here c rest h e = spent-later ps n rest here (subst (λ (x : List ℕ). EndsWith rest x) (sym e) (inr (ends-self rest))) h
@@ -307,16 +366,17 @@ folders-spent ps (suc n) t b h = let e : suc n - 1 ≡ n = omega arith in (h.0, 
 pub folders-as_empty : (ps : List Part) (t : List ℕ) (o : Outcome) → Spends ps t → Tells ps t o → Tells (Folders ∷ ps) t (behind_spent o)
 folders-as_empty ps t Found spends told = folders-empty ps t told
 folders-as_empty ps t (Here n) spends told = folders-here ps n t spends told
+folders-as_empty ps t (Slashes n) spends told = folders-known ps n t told
 folders-as_empty ps t (Segment n) spends told = folders-segment ps n t spends told
 folders-as_empty ps t Nowhere spends told = folders-nowhere ps t told
 
-pub carried-found : (parts : List Part) (text : List ℕ) (slash : Bool) (left : List Part) (here : List ℕ) → Carries parts text slash left here → Tells left here Found → Tells parts text Found
-carried-found parts text true left here carries told = carries Found told
-carried-found parts text false left here carries told = carries Found told
+pub carried-found : (parts : List Part) (text : List ℕ) (slash : Bool) (last : Last) (left : List Part) (here : List ℕ) → Carries parts text slash last left here → Tells left here Found → Tells parts text Found
+carried-found parts text true last left here carries told = carries Found told
+carried-found parts text false last left here carries told = carries Found told
 
-pub carried-nowhere : (parts : List Part) (text : List ℕ) (slash : Bool) (left : List Part) (here : List ℕ) → Carries parts text slash left here → Tells left here Nowhere → Tells parts text Nowhere
-carried-nowhere parts text true left here carries told = carries Nowhere told
-carried-nowhere parts text false left here carries told = carries Nowhere told
+pub carried-nowhere : (parts : List Part) (text : List ℕ) (slash : Bool) (last : Last) (left : List Part) (here : List ℕ) → Carries parts text slash last left here → Tells left here Nowhere → Tells parts text Nowhere
+carried-nowhere parts text true last left here carries told = carries Nowhere told
+carried-nowhere parts text false last left here carries told = carries Nowhere told
 
 pub one-at_end : (s : Single) (ps : List Part) (here : List ℕ) → here ≡ [] → Tells (One s ∷ ps) here Nowhere
 one-at_end s ps here e r w m =
@@ -324,6 +384,12 @@ one-at_end s ps here e r w m =
     let same : r ≡ [] = subst (λ (x : List ℕ). EndsWith r x) e w in
     let clash : l.0 ∷ l.1 ≡ [] = sym l.2 ∙ same in
     absurd cc
+
+pub misfit : (s : Single) (ps left : List Part) (c : ℕ) (t here : List ℕ) → left ≡ One s ∷ ps → here ≡ c ∷ t → false ≡ fits s c → ¬ Matches left here
+misfit s ps left c t here e h other m =
+    let parts : Matches (One s ∷ ps) here = subst (λ (x : List Part). Matches x here) e m in
+    let at : Matches (One s ∷ ps) (c ∷ t) = subst (λ (x : List ℕ). Matches (One s ∷ ps) x) h parts in
+    false≢true (other ∙ (one-parts s ps c t at).0)
 
 -- a `/` that was passed before stays passed
 pub or-passed : (a b : Bool) → a ≡ true → (a || b) ≡ a
@@ -335,5 +401,14 @@ or-new a b e = subst (λ (x : Bool). (x || b) ≡ b) (sym e) refl
 pub not-found : (ps : List Part) (t : List ℕ) (o : Outcome) → (o ≡ Found → ⊥) → Tells ps t o → Matches ps t → ⊥
 not-found ps t Found other told m = other refl
 not-found ps t (Here n) other told m = told.0 m
+not-found ps t (Slashes n) other told m = told.0 m
 not-found ps t (Segment n) other told m = told.0 t (within-self t) m
 not-found ps t Nowhere other told m = told t (ends-self t) m
+
+-- no text behind a `/` of what follows this one
+pub behind-slashes : (ps : List Part) (whole here rest : List ℕ) (n : ℕ) → PassedBehind ps whole here → after_slash here ≡ Some rest → Tells ps rest (Slashes n) → ((r : List ℕ) × EndsBehind r whole × Matches ps r) → ⊥
+behind-slashes ps whole here rest n p e told m =
+    elim (slash-first here rest e m.0 (p.left m.0 m.1 m.2)) [
+      | inl h ↦ told.0 (subst (λ (x : List ℕ). Matches ps x) h m.2)
+      | inr h ↦ told.1 m.0 h m.2
+    ]

@@ -3,7 +3,11 @@ use Rattle.std.specs.Prelude.{◌≡◌, ◌≢◌, ◌+◌, ◌^◌, ℕ, zero,
 use Rattle.rnv_pattern.specs.declared.part.Part.{Part}
 use Rattle.rnv_pattern.specs.declared.part.Part.TheVariants.{Folders, Anything, Run, Single}
 use Rattle.rnv_pattern.specs.declared.matching.Outcome.{Outcome}
-use Rattle.rnv_pattern.specs.declared.matching.Outcome.TheVariants.{Found, Here, Segment, Nowhere}
+use Rattle.rnv_pattern.specs.declared.matching.Outcome.TheVariants.{Found, Here, Slashes, Segment, Nowhere}
+use Rattle.rnv_pattern.specs.declared.matching.Attempt.{Attempt}
+use Rattle.rnv_pattern.specs.declared.matching.Attempt.TheVariants as attempt
+use Rattle.rnv_pattern.specs.declared.matching.Last.{Last}
+use Rattle.rnv_pattern.specs.declared.matching.Last.TheVariants.{Nothing, Slash, Other}
 use Rattle.rnv_pattern.specs.Globs.{Matches, fits}
 
 -- the text ends with rest
@@ -39,16 +43,40 @@ AreSpent (Single single ∷ parts) (suc n) text = (c : ℕ) (rest : List ℕ) �
 abbrev pub Tells : List Part → List ℕ → Outcome → Type 0
 Tells parts text Found = Matches parts text
 Tells parts text (Here spent) = (¬ Matches parts text) × AreSpent parts spent text
+Tells parts text (Slashes spent) = (¬ Matches parts text) × ((rest : List ℕ) → EndsBehind rest text → ¬ Matches parts rest) × AreSpent parts spent text
 Tells parts text (Segment spent) = ((rest : List ℕ) → EndsWithin rest text → ¬ Matches parts rest) × ((rest : List ℕ) → EndsBehind rest text → AreSpent parts spent rest)
 Tells parts text Nowhere = (rest : List ℕ) → EndsWith rest text → ¬ Matches parts rest
+
+-- what an attempt says
+abbrev pub outcome_of : Attempt → Outcome
+outcome_of attempt.Found = Found
+outcome_of (attempt.Here spent) = Here spent
+outcome_of (attempt.Segment spent) = Segment spent
+outcome_of attempt.Nowhere = Nowhere
 
 -- the same outcome, where it is said of a text with a `/` before the place that it was learned at
 abbrev pub raised : Bool → Outcome → Outcome
 raised true (Here spent) = Segment spent
+raised true (Slashes spent) = Segment spent
 raised true Found = Found
 raised true (Segment spent) = Segment spent
 raised true Nowhere = Nowhere
 raised false outcome = outcome
+
+-- what the character is, as what was passed last
+abbrev pub last_of : ℕ → Last
+last_of c = if c == 47 then Slash else Other
+
+-- The same outcome, where it is said of a text with this before the place that it was learned at. What
+-- ends in a `/` ends behind one wherever it begins.
+abbrev pub settled : Outcome → Last → Outcome
+settled Found last = Found
+settled (Here spent) last = Here spent
+settled (Segment spent) last = Segment spent
+settled Nowhere last = Nowhere
+settled (Slashes spent) Nothing = Slashes spent
+settled (Slashes spent) Slash = Nowhere
+settled (Slashes spent) Other = Here spent
 
 -- one more; or 0, which says nothing, where that is no number of the machine
 abbrev pub one_more : ℕ → ℕ
@@ -58,5 +86,11 @@ one_more n = if nat_lt (n + 1) (2 ^ 64) then n + 1 else 0
 abbrev pub behind_spent : Outcome → Outcome
 behind_spent Found = Found
 behind_spent (Here spent) = Here (one_more spent)
+behind_spent (Slashes spent) = Slashes (one_more spent)
 behind_spent (Segment spent) = Segment (one_more spent)
 behind_spent Nowhere = Nowhere
+
+-- what is told of a `**/` and parts that match neither up to the first `/` nor behind one
+abbrev pub unmatched : ℕ → Outcome
+unmatched zero = Slashes 1
+unmatched (suc spent) = Segment (one_more (suc spent))

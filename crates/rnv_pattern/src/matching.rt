@@ -1,7 +1,7 @@
 ghost use Rattle.std.specs.Prelude.{◌≡◌, [], ◌∷◌, ◌+◌, ◌<◌, ◌↔◌, ℕ, List, length, IsTrue, MatchOption, IfSome, option_map};
 ghost use Rattle.std.specs.Str.{chars};
 ghost use Rattle.rnv_pattern.specs.Globs.{fits, in_class, in_range, Matches};
-ghost use Rattle.rnv_pattern.specs.Search.{AreSpent, EndsBehind, Tells, after_slash, raised, one_more, behind_spent};
+ghost use Rattle.rnv_pattern.specs.Search.{AreSpent, EndsBehind, Tells, after_slash, behind_spent, last_of, one_more, outcome_of, raised, settled, unmatched};
 ghost use Rattle.rnv_pattern.specs.declared.part.Part.TheVariants.{Folders, Anything, Run};
 
 use crate::part::{Part, Range, Single};
@@ -14,6 +14,8 @@ pub enum Outcome {
     Found,
     // The parts do not match this text.
     Here(usize),
+    // Nor what follows one of its `/`.
+    Slashes(usize),
     // Nor what it ends with, up to its first `/`.
     Segment(usize),
     // Nor anything that it ends with.
@@ -79,12 +81,46 @@ fn after_slash(text: &str) -> Option<&str>
     None
 }
 
+// The same, for a wildcard that tries the next character or segment: no text behind a `/` is spared.
+#[derive(Clone, Copy)]
+pub enum Attempt {
+    Found,
+    Here(usize),
+    Segment(usize),
+    Nowhere,
+}
+
+// What was passed last, before a search went on.
+#[derive(Clone, Copy)]
+pub enum Last {
+    Nothing,
+    Slash,
+    Other,
+}
+
+fn last_of(c: char) -> Last
+    ensures { result ≡ last_of c }
+{
+    if c == '/' { Last::Slash } else { Last::Other }
+}
+
+// The outcome for a text that begins with this one more.
+fn settled(outcome: Outcome, last: Last) -> Outcome
+    ensures { result ≡ settled outcome last }
+{
+    match (outcome, last) {
+        (Outcome::Slashes(_), Last::Slash) => Outcome::Nowhere,
+        (Outcome::Slashes(spent), Last::Other) => Outcome::Here(spent),
+        _ => outcome,
+    }
+}
+
 // The outcome for a text that begins with one more `/`, or none.
 fn raised(slash: bool, outcome: Outcome) -> Outcome
     ensures { result ≡ raised slash outcome }
 {
     match outcome {
-        Outcome::Here(spent) if slash => Outcome::Segment(spent),
+        Outcome::Here(spent) | Outcome::Slashes(spent) if slash => Outcome::Segment(spent),
         _ => outcome,
     }
 }
@@ -100,6 +136,13 @@ fn next_part(parts: &[Part]) -> Option<(&Part, &[Part])>
     }
 }
 
+// The outcome for a text that begins with a row of which this was passed last, with a `/` or none.
+fn carried(outcome: Outcome, last: Last, slash: bool) -> Outcome
+    ensures { result ≡ raised slash (settled outcome last) }
+{
+    raised(slash, settled(outcome, last))
+}
+
 // What a search for the parts learns, where the first so many `**/` are spent.
 #[cycle(search)]
 fn seek(parts: &[Part], text: &str, spent: usize) -> Outcome
@@ -107,20 +150,22 @@ fn seek(parts: &[Part], text: &str, spent: usize) -> Outcome
     ensures { Tells parts.now (chars text.now) result }
 {
     let mut slash = false;
+    let mut last = Last::Nothing;
     let mut left = parts;
     let mut here = text;
     while let Some((part, others)) = next_part(left) {
         match part {
-            Part::Folders => return raised(slash, folders(others, here, spent)),
-            Part::Anything => return raised(slash, anything(others, here, spent)),
-            Part::Run => return raised(slash, run(others, here, spent)),
+            Part::Folders => return carried(folders(others, here, spent), last, slash),
+            Part::Anything => return carried(anything(others, here, spent), last, slash),
+            Part::Run => return carried(run(others, here, spent), last, slash),
             Part::Single(single) => {
                 let Some((c, rest)) = split_char(here) else {
                     return Outcome::Nowhere;
                 };
                 if !fits(single, c) {
-                    return raised(slash, Outcome::Here(spent));
+                    return carried(Outcome::Here(spent), last, slash);
                 }
+                last = last_of(c);
                 slash = slash || c == '/';
                 left = others;
                 here = rest;
@@ -130,7 +175,22 @@ fn seek(parts: &[Part], text: &str, spent: usize) -> Outcome
     if here.is_empty() {
         return Outcome::Found;
     }
-    raised(slash, Outcome::Here(spent))
+    carried(Outcome::Here(spent), last, slash)
+}
+
+// The same for a wildcard in front of the parts.
+#[cycle(search)]
+fn attempted(parts: &[Part], text: &str, spent: usize) -> Attempt
+    requires { AreSpent parts.now spent (chars text.now) }
+    ensures { Tells parts.now (chars text.now) (outcome_of result) }
+{
+    match seek(parts, text, spent) {
+        Outcome::Found => Attempt::Found,
+        Outcome::Here(more) => Attempt::Here(more),
+        Outcome::Slashes(more) => Attempt::Here(more),
+        Outcome::Segment(more) => Attempt::Segment(more),
+        Outcome::Nowhere => Attempt::Nowhere,
+    }
 }
 
 // What a search for `**` and the parts learns: these may begin anywhere.
@@ -142,17 +202,17 @@ fn anything(parts: &[Part], text: &str, spent: usize) -> Outcome
     let mut here = text;
     let mut known = spent;
     loop {
-        match seek(parts, here, known) {
-            Outcome::Found => return Outcome::Found,
-            Outcome::Nowhere => return Outcome::Nowhere,
-            Outcome::Here(more) => {
+        match attempted(parts, here, known) {
+            Attempt::Found => return Outcome::Found,
+            Attempt::Nowhere => return Outcome::Nowhere,
+            Attempt::Here(more) => {
                 let Some((_, rest)) = split_char(here) else {
                     return Outcome::Nowhere;
                 };
                 here = rest;
                 known = more;
             }
-            Outcome::Segment(more) => {
+            Attempt::Segment(more) => {
                 let Some(rest) = after_slash(here) else {
                     return Outcome::Nowhere;
                 };
@@ -172,11 +232,11 @@ fn run(parts: &[Part], text: &str, spent: usize) -> Outcome
     let mut here = text;
     let mut known = spent;
     loop {
-        match seek(parts, here, known) {
-            Outcome::Found => return Outcome::Found,
-            Outcome::Nowhere => return Outcome::Nowhere,
-            Outcome::Segment(more) => return Outcome::Segment(more),
-            Outcome::Here(more) => {
+        match attempted(parts, here, known) {
+            Attempt::Found => return Outcome::Found,
+            Attempt::Nowhere => return Outcome::Nowhere,
+            Attempt::Segment(more) => return Outcome::Segment(more),
+            Attempt::Here(more) => {
                 let Some((c, rest)) = split_char(here) else {
                     return Outcome::Segment(more);
                 };
@@ -202,18 +262,30 @@ fn folders(parts: &[Part], text: &str, spent: usize) -> Outcome
     match seek(parts, text, 0) {
         Outcome::Found => Outcome::Found,
         Outcome::Nowhere => Outcome::Nowhere,
+        Outcome::Slashes(more) => behind_spent(Outcome::Slashes(more)),
         Outcome::Here(more) => {
             if is_behind(parts, text, more) {
                 return Outcome::Found;
             }
-            behind_spent(Outcome::Here(more))
+            behind_spent(Outcome::Slashes(more))
         }
         Outcome::Segment(more) => {
             if is_behind(parts, text, more) {
                 return Outcome::Found;
             }
-            behind_spent(Outcome::Segment(more))
+            unmatched(more)
         }
+    }
+}
+
+// What is learned of a `**/` and parts that no segment and no text behind a `/` matches.
+fn unmatched(spent: usize) -> Outcome
+    ensures { result ≡ unmatched spent }
+{
+    if spent == 0 {
+        Outcome::Slashes(1)
+    } else {
+        Outcome::Segment(one_more(spent))
     }
 }
 
@@ -233,6 +305,7 @@ fn behind_spent(outcome: Outcome) -> Outcome
 {
     match outcome {
         Outcome::Here(spent) => Outcome::Here(one_more(spent)),
+        Outcome::Slashes(spent) => Outcome::Slashes(one_more(spent)),
         Outcome::Segment(spent) => Outcome::Segment(one_more(spent)),
         _ => outcome,
     }
@@ -250,6 +323,7 @@ fn is_behind(parts: &[Part], text: &str, spent: usize) -> bool
         match seek(parts, rest, known) {
             Outcome::Found => return true,
             Outcome::Nowhere => return false,
+            Outcome::Slashes(_) => return false,
             Outcome::Here(more) | Outcome::Segment(more) => known = more,
         }
         here = rest;

@@ -7,22 +7,25 @@ use Rattle.rnv_pattern.proofs.Learned.{Carries, Passed, PassedWithin, PassedBehi
 use Rattle.rnv_pattern.proofs.matching.+search.Given as goal
 
 abbrev pub decreases-seek : goal.decreases-seek
-decreases-seek l = 4 * length l.parts.now
+decreases-seek l = 5 * length l.parts.now
+
+abbrev pub decreases-attempted : goal.decreases-attempted
+decreases-attempted l = 5 * length l.parts.now + 1
 
 abbrev pub decreases-anything : goal.decreases-anything
-decreases-anything l = 4 * length l.parts.now + 1
+decreases-anything l = 5 * length l.parts.now + 2
 
 abbrev pub decreases-run : goal.decreases-run
-decreases-run l = 4 * length l.parts.now + 1
+decreases-run l = 5 * length l.parts.now + 2
 
 abbrev pub decreases-is_behind : goal.decreases-is_behind
-decreases-is_behind l = 4 * length l.parts.now + 1
+decreases-is_behind l = 5 * length l.parts.now + 2
 
 abbrev pub decreases-folders : goal.decreases-folders
-decreases-folders l = 4 * length l.parts.now + 2
+decreases-folders l = 5 * length l.parts.now + 3
 
 abbrev pub invariant-seek-loop-part : goal.invariant-seek-loop-part
-invariant-seek-loop-part l = shadow (Utf8 l.here) × Carries l.fn.parts (chars l.fn.text) l.slash l.left (chars l.here) × AreSpent l.left l.spent (chars l.here) × (length l.left ≤ length l.fn.parts)
+invariant-seek-loop-part l = shadow (Utf8 l.here) × Carries l.fn.parts (chars l.fn.text) l.slash l.last l.left (chars l.here) × AreSpent l.left l.spent (chars l.here) × (length l.left ≤ length l.fn.parts)
 
 abbrev pub decreases-seek-loop-part : goal.decreases-seek-loop-part
 decreases-seek-loop-part l = length l.left
