@@ -14,11 +14,11 @@ pub enum Outcome {
     Found,
     // The parts do not match this text.
     Here(usize),
-    // Nor what follows one of its `/`.
+    // They match neither this text nor what follows one of its `/`.
     Slashes(usize),
-    // Nor what it ends with, up to its first `/`.
+    // They match nothing that the text ends with, up to its first `/`.
     Segment(usize),
-    // Nor anything that it ends with.
+    // They match nothing that the text ends with.
     Nowhere,
 }
 

@@ -1,4 +1,4 @@
-ghost use Rattle.std.specs.Prelude.{◌≡◌, ◌↔◌, ◌∷◌, [], ◌++◌, IsTrue, IsOk, IfOk, OnOk, IsErrOf, option_copied};
+ghost use Rattle.std.specs.Prelude.{◌≡◌, ◌↔◌, IsTrue, IsOk, IfOk, OnOk, IsErrOf, option_copied};
 ghost use Rattle.rnv_pattern.specs.Building.{Built};
 ghost use Rattle.rnv_pattern.specs.Patterns.{AreExpressions, Holds, IsBadGlob, IsGlobPattern, IsPattern, IsWholeExpression, RefusedIn, TookMore, expression_of, pattern_text, rule_text};
 ghost use Rattle.rnv_pattern.specs.declared.error.PatternError.TheVariants.{BadGlob, BadExpression};

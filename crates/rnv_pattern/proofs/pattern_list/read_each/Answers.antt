@@ -1,4 +1,4 @@
-use Rattle.std.proofs.Common.{◌≡◌, ◌+◌, ◌++◌, ◌∷◌, [], ℕ, List, map, take, sym, subst, ◌∙◌}
+use Rattle.std.proofs.Common.{◌+◌, ◌++◌, ◌∷◌, [], ℕ, List, map, take, sym, subst, ◌∙◌}
 use Rattle.rnv_pattern.specs.Patterns.{AreAllExpressions, AreExpressions, ArePatterns, IsBadGlob, IsPattern, RefusedIn, TookMore, rule_text}
 use Rattle.rnv_pattern.specs.declared.error.PatternError.TheVariants.{BadGlob, BadExpression}
 use Rattle.rnv_pattern.specs.declared.pattern.Pattern.{Pattern}
