@@ -27,37 +27,37 @@ all_flat_map : {X A : Type 0} (P : A → Type 0) (Q : X → Type 0) (f : X → L
 all_flat_map P Q f h [] a = tt
 all_flat_map P Q f h (x ∷ xs) a = all_append P (f x) (flat_map f xs) (h x a.0) (all_flat_map P Q f h xs a.1)
 
-abbrev Puts : Given → Base → List Write → Type 0
-Puts g base ws = AllByRecursion (PutsContent g base) ws
+abbrev AllPut : Given → Base → List Write → Type 0
+AllPut g base ws = AllByRecursion (PutsContent g base) ws
 
-puts_clean : (g : Given) (repo : Repo) (b : Branch) → Puts g (base_of repo) (clean_of g repo b)
+puts_clean : (g : Given) (repo : Repo) (b : Branch) → AllPut g (base_of repo) (clean_of g repo b)
 puts_clean g repo b = go (is_wanted_name g repo b.name) (live_on b.name repo.requests)
   where
-    go : (t : Bool) (l : Option Request) → Puts g (base_of repo) (cond t [] (clean_over repo.name b.name l))
+    go : (t : Bool) (l : Option Request) → AllPut g (base_of repo) (cond t [] (clean_over repo.name b.name l))
     go true l = tt
     go false None = (tt, tt)
     go false (Some r) = (tt, (tt, tt))
 
-puts_ask : (g : Given) (base : Base) (new : Bool) (moment : ℕ) (branch : List ℕ) (l : Option Request) (t : Texts) → Puts g base (request_writes base.name new moment branch l t)
-puts_ask g base new moment branch None t = elim new as (λ x. Puts g base (cond x (opening base.name 0 branch t moment ∷ []) [])) [ true ↦ (tt, tt) | false ↦ tt ]
-puts_ask g base new moment branch (Some r) t = elim (same_texts (texts_of r) t) as (λ x. Puts g base (cond x [] (editing base.name r.number t ∷ []))) [ true ↦ tt | false ↦ (tt, tt) ]
+puts_ask : (g : Given) (base : Base) (new : Bool) (moment : ℕ) (branch : List ℕ) (l : Option Request) (t : Texts) → AllPut g base (request_writes base.name new moment branch l t)
+puts_ask g base new moment branch None t = elim new as (λ x. AllPut g base (cond x (opening base.name 0 branch t moment ∷ []) [])) [ true ↦ (tt, tt) | false ↦ tt ]
+puts_ask g base new moment branch (Some r) t = elim (same_texts (texts_of r) t) as (λ x. AllPut g base (cond x [] (editing base.name r.number t ∷ []))) [ true ↦ tt | false ↦ (tt, tt) ]
 
-puts_put : (g : Given) (base : Base) (i : Item) (ticked : Bool) (o : Option Branch) → item_at i.branch g.items ≡ Some i → Puts g base (put_writes base.name o (result_over g base i ticked o))
+puts_put : (g : Given) (base : Base) (i : Item) (ticked : Bool) (o : Option Branch) → item_at i.branch g.items ≡ Some i → AllPut g base (put_writes base.name o (result_over g base i ticked o))
 puts_put g base i ticked o found =
-    elim (has o (result_over g base i ticked o)) as (λ x. has o (result_over g base i ticked o) ≡ x → Puts g base (cond x [] (PutBranch base.name (result_over g base i ticked o) ∷ []))) [
+    elim (has o (result_over g base i ticked o)) as (λ x. has o (result_over g base i ticked o) ≡ x → AllPut g base (cond x [] (PutBranch base.name (result_over g base i ticked o) ∷ []))) [
       | true ↦ λ e. tt
       | false ↦ λ e. (record { item = i; among = found; is = put_is_content g base i ticked o e }, tt)
     ] refl
 
-puts_todo : (g : Given) (base : Base) (c : Bool) (i : Item) (v : View) → item_at i.branch g.items ≡ Some i → Puts g base (todo g base c i v)
+puts_todo : (g : Given) (base : Base) (c : Bool) (i : Item) (v : View) → item_at i.branch g.items ≡ Some i → AllPut g base (todo g base c i v)
 puts_todo g base c i v found =
-    elim (is_worked g c i v) as (λ x. Puts g base (cond x (put_writes base.name v.branch (result g base i v) ++ ask_writes g base i v) [])) [
+    elim (is_worked g c i v) as (λ x. AllPut g base (cond x (put_writes base.name v.branch (result g base i v) ++ ask_writes g base i v) [])) [
       | true ↦ all_append (PutsContent g base) (put_writes base.name v.branch (result g base i v)) (ask_writes g base i v) (puts_put g base i v.ticked v.branch found)
           (puts_ask g base (to_open g base i v) g.moment i.branch v.live (texts g base i v))
       | false ↦ tt
     ]
 
-puts_plan : (g : Given) (repo : Repo) → IsFit g → Puts g (base_of repo) (plan g repo)
+puts_plan : (g : Given) (repo : Repo) → IsFit g → AllPut g (base_of repo) (plan g repo)
 unfolding cleanup todos finish
 puts_plan g repo fit =
     let P = PutsContent g (base_of repo) in
@@ -65,7 +65,7 @@ puts_plan g repo fit =
     (all_flat_map P (λ b. Unit {0}) (clean_of g repo) (λ b _. puts_clean g repo b) repo.branches (all_every (λ (b : Branch). Unit {0}) (λ b. tt) repo.branches))
     (all_append P (todos g repo) (finish g repo)
     (all_flat_map P (λ (i : Item). item_at i.branch g.items ≡ Some i) (todo_of g repo) (λ i found. puts_todo g (base_of repo) (is_chosen g repo i) i (view g repo i) found) (work_order g repo) (order_found g repo fit))
-    (elim (repo.due || not (same_page repo.page (outcome_page g repo))) as (λ x. Puts g (base_of repo) (cond x (Finish repo.name (outcome_page g repo) ∷ []) [])) [ true ↦ (tt, tt) | false ↦ tt ]))
+    (elim (repo.due || not (same_page repo.page (outcome_page g repo))) as (λ x. AllPut g (base_of repo) (cond x (Finish repo.name (outcome_page g repo) ∷ []) [])) [ true ↦ (tt, tt) | false ↦ tt ]))
 
 puts_number : (g : Given) (base : Base) (n : ℕ) (w : Write) → PutsContent g base w → PutsContent g base (with_number n w)
 puts_number g base n (SetBase repo changes) p = p
@@ -76,7 +76,7 @@ puts_number g base n (EditRequest repo number updates title body labels) p = p
 puts_number g base n (Autoclose repo number) p = p
 puts_number g base n (Finish repo page) p = p
 
-puts_numbered : (g : Given) (base : Base) (n : ℕ) (ws : List Write) → Puts g base ws → Puts g base (numbered n ws)
+puts_numbered : (g : Given) (base : Base) (n : ℕ) (ws : List Write) → AllPut g base ws → AllPut g base (numbered n ws)
 puts_numbered g base n [] p = tt
 puts_numbered g base n (w ∷ ws) p = (puts_number g base n w p.0, puts_numbered g base (number_after n w) ws p.1)
 
