@@ -1,4 +1,5 @@
-//! The program: plans over the folder where it runs, prints the plan, and ends with the status.
+//! The program over the folder where it runs and the store there: does what its words ask for, and ends
+//! with the status.
 #![tactic(auto)]
 
 mod here_disk;
@@ -9,6 +10,7 @@ mod stream_sink;
 mod tests;
 mod walk;
 
+use here_disk::HereDisk;
 use here_folder::HereFolder;
 use rnv_app::{Outside, renovate};
 use rnv_base::{List, Text};
@@ -23,6 +25,7 @@ fn main(rt: HostRuntime) -> io::Result<ExitCode> {
     let outside = Outside {
         out: StreamSink::new(rt.stdout()),
         folder: HereFolder::new(rt.clone()?),
+        disk: HereDisk::new(rt.clone()?),
     };
     let ended = renovate(rt.alloc(), &words, outside);
     Ok(ExitCode::from(ended.status.code))

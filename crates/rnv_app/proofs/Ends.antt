@@ -1,149 +1,144 @@
--- What each status tells, from how the run ended.
+-- What each status tells, from what was told of a text or a refusal.
 use Rattle.std.specs.Result.{IfErr}
 use Rattle.std.specs.Option.{IfSome}
-use Rattle.std.proofs.Common.{◌≡◌, ◌⊎◌, inl, inr, ℕ, ◌≤◌, List, ◌++◌, take, Result, Ok, Err, IsErrOf, ◌↔◌, sym, subst, ◌∙◌, ap, refl, arith}
-use Rattle.rnv_base.specs.Files.{NamedFile}
+use Rattle.std.proofs.Common.{◌≡◌, ◌≢◌, ◌⊎◌, inl, inr, ℕ, ◌≤◌, List, ◌++◌, take, Result, Ok, Err, IsErrOf, ◌↔◌, sym, subst, ◌∙◌, ap, refl, arith}
 use Rattle.rnv_base.specs.Causes.{Rose, FaultsBy}
-use Rattle.rnv_base.specs.Moment.{IsMomentText}
-use Rattle.rnv_plan.specs.declared.item.Item.{Item}
-use Rattle.rnv_plan.specs.Unbuilt.{IsPlanned, IsUnbuilt}
 use Rattle.rnv_app.specs.declared.end.Refusal.{Refusal}
-use Rattle.rnv_app.specs.declared.end.Refusal.TheVariants.{Memory, Usage, FolderFault, WriteFault, NotBuilt}
-use Rattle.rnv_app.specs.Words.{IsPlan}
-use Rattle.rnv_app.specs.Text.{plan_text}
-use Rattle.rnv_app.specs.End.{code_of, refusal_text, not_built_text, memory_line, usage_line, folder_line, line_of, IsLine, IsStatus, IsUnbuiltStatus, IsQuiet, IsUnwritten}
-use Rattle.rnv_app.specs.Top.{HasPlan, HasNoPlan, Tells, IsPrinted, IsPrintedInPart, Writes, IsNotBuilt, IsBuilt, IsNamed}
-use Rattle.rnv_app.proofs.Four.{one-repo}
-use Rattle.rnv_app.proofs.Parts.{later-rose}
+use Rattle.rnv_app.specs.declared.end.Refusal.TheVariants.{Memory, Usage, UnknownRepo, FolderFault, DiskFault, NotAJournal, Limit, NotBuilt}
+use Rattle.rnv_app.specs.End.{code_of, refusal_text, line_of, IsLine, IsStatus, IsTold, IsWritten, IsWrittenInPart, IsRefused}
 
-pub has_plan : (words : List (List ℕ)) (files : List NamedFile) (text repo : List ℕ) (now : ℕ) (items : List Item) → IsPlan words repo now → IsPlanned repo files items → ((path : List ℕ) → ¬ (IsUnbuilt repo files path)) → (time : List ℕ) × IsMomentText time now × (text ≡ plan_text time items) → HasPlan words files text
-has_plan words files text repo now items asked planned built printed = record {
-  repo = repo;
-  now = now;
-  asked = asked;
-  items = items;
-  planned = planned;
-  built = built;
-  time = printed.0;
-  timed = printed.1;
-  same = printed.2;
-}
+abbrev pub Answer : Type 0
+Answer = Result (List ℕ) Refusal
 
-abbrev End : Type 0
-End = Result (Unit {0}) Refusal
+refusal_status : (refusal : Refusal) → IsStatus (code_of refusal)
+refusal_status Memory = refl
+refusal_status Usage = refl
+refusal_status UnknownRepo = refl
+refusal_status FolderFault = refl
+refusal_status DiskFault = refl
+refusal_status (NotAJournal offset) = refl
+refusal_status (Limit which number) = refl
+refusal_status (NotBuilt path) = refl
 
--- what all of the words and a plan of them say is one
-no-reason : (words : List (List ℕ)) (files : List NamedFile) (repo : List ℕ) (now : ℕ) → IsPlan words repo now → ((path : List ℕ) → ¬ (IsUnbuilt repo files path)) → (path : List ℕ) → ¬ (HasNoPlan words files path)
-no-reason words files repo now asked built path none =
-    built path (subst (λ (r : List ℕ). IsUnbuilt r files path) (one-repo words none.repo repo none.now now none.asked asked) none.unbuilt)
+never_zero : (refusal : Refusal) → ¬ (code_of refusal ≡ 0)
+never_zero Memory e = absurd (omega (arith, e))
+never_zero Usage e = absurd (omega (arith, e))
+never_zero UnknownRepo e = absurd (omega (arith, e))
+never_zero FolderFault e = absurd (omega (arith, e))
+never_zero DiskFault e = absurd (omega (arith, e))
+never_zero (NotAJournal offset) e = absurd (omega (arith, e))
+never_zero (Limit which number) e = absurd (omega (arith, e))
+never_zero (NotBuilt path) e = absurd (omega (arith, e))
 
-status : (end : End) → IsStatus (code_of end)
-status (Ok done) = refl
-status (Err Memory) = refl
-status (Err Usage) = refl
-status (Err FolderFault) = refl
-status (Err WriteFault) = refl
-status (Err (NotBuilt path)) = refl
+never_ten : (refusal : Refusal) → ¬ (code_of refusal ≡ 10)
+never_ten Memory e = absurd (omega (arith, e))
+never_ten Usage e = absurd (omega (arith, e))
+never_ten UnknownRepo e = absurd (omega (arith, e))
+never_ten FolderFault e = absurd (omega (arith, e))
+never_ten DiskFault e = absurd (omega (arith, e))
+never_ten (NotAJournal offset) e = absurd (omega (arith, e))
+never_ten (Limit which number) e = absurd (omega (arith, e))
+never_ten (NotBuilt path) e = absurd (omega (arith, e))
 
-pub status-of : (end : End) (code : ℕ) → code ≡ code_of end → IsStatus code
-status-of end code e = subst IsStatus (sym e) (status end)
+only_2 : (refusal : Refusal) → code_of refusal ≡ 2 → refusal ≡ Usage
+only_2 Memory e = absurd (omega (arith, e))
+only_2 Usage e = refl
+only_2 UnknownRepo e = absurd (omega (arith, e))
+only_2 FolderFault e = absurd (omega (arith, e))
+only_2 DiskFault e = absurd (omega (arith, e))
+only_2 (NotAJournal offset) e = absurd (omega (arith, e))
+only_2 (Limit which number) e = absurd (omega (arith, e))
+only_2 (NotBuilt path) e = absurd (omega (arith, e))
 
-pub usage-of : (end : End) (code : ℕ) (P : Type 0) → code ≡ code_of end → IsErrOf end Usage ↔ P → (code ≡ 2) ↔ P
-usage-of (Ok done) code P e u = (λ two. absurd (omega arith), λ p. cc (u.1 p))
-usage-of (Err Memory) code P e u = (λ two. absurd (omega arith), λ p. cc (u.1 p))
-usage-of (Err Usage) code P e u = (λ two. u.0 refl, λ p. e)
-usage-of (Err FolderFault) code P e u = (λ two. absurd (omega arith), λ p. cc (u.1 p))
-usage-of (Err WriteFault) code P e u = (λ two. absurd (omega arith), λ p. cc (u.1 p))
-usage-of (Err (NotBuilt path)) code P e u = (λ two. absurd (omega arith), λ p. cc (u.1 p))
+only_5 : (refusal : Refusal) → code_of refusal ≡ 5 → refusal ≡ FolderFault
+only_5 Memory e = absurd (omega (arith, e))
+only_5 Usage e = absurd (omega (arith, e))
+only_5 UnknownRepo e = absurd (omega (arith, e))
+only_5 FolderFault e = refl
+only_5 DiskFault e = absurd (omega (arith, e))
+only_5 (NotAJournal offset) e = absurd (omega (arith, e))
+only_5 (Limit which number) e = absurd (omega (arith, e))
+only_5 (NotBuilt path) e = absurd (omega (arith, e))
 
-pub folder-of : (end : End) (code before now : ℕ) → code ≡ code_of end → FaultsBy before now end FolderFault → code ≡ 5 → Rose before now
-folder-of (Ok done) code before now e f five = absurd (omega (arith, e, five))
-folder-of (Err Memory) code before now e f five = absurd (omega (arith, e, five))
-folder-of (Err Usage) code before now e f five = absurd (omega (arith, e, five))
-folder-of (Err FolderFault) code before now e f five = f.failed refl
-folder-of (Err WriteFault) code before now e f five = absurd (omega (arith, e, five))
-folder-of (Err (NotBuilt path)) code before now e f five = absurd (omega (arith, e, five))
+only_7 : (refusal : Refusal) → code_of refusal ≡ 7 → refusal ≡ DiskFault
+only_7 Memory e = absurd (omega (arith, e))
+only_7 Usage e = absurd (omega (arith, e))
+only_7 UnknownRepo e = absurd (omega (arith, e))
+only_7 FolderFault e = absurd (omega (arith, e))
+only_7 DiskFault e = refl
+only_7 (NotAJournal offset) e = absurd (omega (arith, e))
+only_7 (Limit which number) e = absurd (omega (arith, e))
+only_7 (NotBuilt path) e = absurd (omega (arith, e))
 
-still-rose : (before mid now : ℕ) → Rose before mid → mid ≤ now → Rose before now
-still-rose before mid now rose later = omega (arith, rose, later)
+only_15 : (refusal : Refusal) → code_of refusal ≡ 15 → (path : List ℕ) × (refusal ≡ NotBuilt path)
+only_15 Memory e = absurd (omega (arith, e))
+only_15 Usage e = absurd (omega (arith, e))
+only_15 UnknownRepo e = absurd (omega (arith, e))
+only_15 FolderFault e = absurd (omega (arith, e))
+only_15 DiskFault e = absurd (omega (arith, e))
+only_15 (NotAJournal offset) e = absurd (omega (arith, e))
+only_15 (Limit which number) e = absurd (omega (arith, e))
+only_15 (NotBuilt path) e = (path, refl)
 
-pub write-of : (end : End) (code before mid now : ℕ) → code ≡ code_of end → FaultsBy before mid end WriteFault → mid ≤ now → code ≡ 10 → Rose before now
-write-of (Ok done) code before mid now e f later ten = absurd (omega (arith, e, ten))
-write-of (Err Memory) code before mid now e f later ten = absurd (omega (arith, e, ten))
-write-of (Err Usage) code before mid now e f later ten = absurd (omega (arith, e, ten))
-write-of (Err FolderFault) code before mid now e f later ten = absurd (omega (arith, e, ten))
-write-of (Err WriteFault) code before mid now e f later ten = still-rose before mid now (f.failed refl) later
-write-of (Err (NotBuilt path)) code before mid now e f later ten = absurd (omega (arith, e, ten))
+module _ (tells : Type 0) (before after : List ℕ) (faults now : ℕ) where
+  abbrev pub Told : Answer → ℕ → Type 0
+  Told answer code = IsTold tells before after faults now answer code
 
-pub not_built-of : (end : End) (code : ℕ) (words : List (List ℕ)) (files : List NamedFile) → code ≡ code_of end → Tells words files end → code ≡ 15 → IsNotBuilt words files
-not_built-of (Ok done) code words files e told fifteen = absurd (omega (arith, e, fifteen))
-not_built-of (Err Memory) code words files e told fifteen = absurd (omega (arith, e, fifteen))
-not_built-of (Err Usage) code words files e told fifteen = absurd (omega (arith, e, fifteen))
-not_built-of (Err FolderFault) code words files e told fifteen = absurd (omega (arith, e, fifteen))
-not_built-of (Err WriteFault) code words files e told fifteen = absurd (omega (arith, e, fifteen))
-not_built-of (Err (NotBuilt path)) code words files e told fifteen = (path, told)
+  abbrev pub Line : List ℕ → Type 0
+  Line text = IsLine before after faults now text
 
-pub exactly-of : (end : End) (code : ℕ) (words : List (List ℕ)) (files : List NamedFile) → code ≡ code_of end → Tells words files end → IsErrOf end Usage ↔ ((repo : List ℕ) (now : ℕ) → ¬ (IsPlan words repo now)) → IsNotBuilt words files → IsUnbuiltStatus code
-exactly-of (Ok done) code words files e told u none =
-    let plan = told.1 in absurd (no-reason words files plan.repo plan.now plan.asked plan.built none.0 none.1)
-exactly-of (Err Memory) code words files e told u none = subst IsUnbuiltStatus (sym e) refl
-exactly-of (Err Usage) code words files e told u none = absurd (u.0 refl none.1.repo none.1.now none.1.asked)
-exactly-of (Err FolderFault) code words files e told u none = subst IsUnbuiltStatus (sym e) refl
-exactly-of (Err WriteFault) code words files e told u none =
-    let plan = told.1 in absurd (no-reason words files plan.repo plan.now plan.asked plan.built none.0 none.1)
-exactly-of (Err (NotBuilt path)) code words files e told u none = subst IsUnbuiltStatus (sym e) refl
+  pub status_of : (answer : Answer) (code : ℕ) → Told answer code → IsStatus code
+  status_of (Ok text) code (inl w) = subst IsStatus (sym w.status) refl
+  status_of (Ok text) code (inr p) = subst IsStatus (sym p.status) refl
+  status_of (Err refusal) code r = subst IsStatus (sym r.status) (refusal_status refusal)
 
-pub complete-of : (end : End) (code : ℕ) (words : List (List ℕ)) (files : List NamedFile) (before now first mid last : ℕ) → code ≡ code_of end → Tells words files end → IsErrOf end Usage ↔ ((repo : List ℕ) (now : ℕ) → ¬ (IsPlan words repo now)) → FaultsBy before now end FolderFault → FaultsBy first mid end WriteFault → mid ≤ last → IsBuilt words files → ¬ (Rose before now) → ¬ (Rose first last) → (code ≡ 0) ⊎ (code ≡ 1)
-complete-of (Ok done) code words files before now first mid last e told u f w later b quiet still = inl e
-complete-of (Err Memory) code words files before now first mid last e told u f w later b quiet still = inr e
-complete-of (Err Usage) code words files before now first mid last e told u f w later b quiet still = absurd (u.0 refl b.repo b.now b.asked)
-complete-of (Err FolderFault) code words files before now first mid last e told u f w later b quiet still = absurd (quiet (f.failed refl))
-complete-of (Err WriteFault) code words files before now first mid last e told u f w later b quiet still = absurd (still (still-rose first mid last (w.failed refl) later))
-complete-of (Err (NotBuilt path)) code words files before now first mid last e told u f w later b quiet still = absurd (no-reason words files b.repo b.now b.asked b.built path told)
+  -- another status than 0 and 10
+  pub refused_at : (answer : Answer) (code n : ℕ) → Told answer code → code ≡ n → n ≢ 0 → n ≢ 10 → (refusal : Refusal) × (answer ≡ Err refusal) × (code_of refusal ≡ n) × (tells → Line (refusal_text refusal))
+  refused_at (Ok text) code n (inl w) e n0 n10 = absurd (n0 (sym e ∙ w.status))
+  refused_at (Ok text) code n (inr p) e n0 n10 = absurd (n10 (sym e ∙ p.status))
+  refused_at (Err refusal) code n r e n0 n10 = (refusal, refl, sym r.status ∙ e, r.line)
 
-pub printed-of : (end : End) (code : ℕ) (words : List (List ℕ)) (files : List NamedFile) (before mid after : List ℕ) → code ≡ code_of end → Writes words files before mid end → (IsQuiet end → after ≡ mid) → code ≡ 0 → IsPrinted words files before after
-printed-of (Ok done) code words files before mid after e w quiet zero = record { text = w.text; plan = w.plan; written = quiet tt ∙ w.written }
-printed-of (Err Memory) code words files before mid after e w quiet zero = absurd (omega (arith, e, zero))
-printed-of (Err Usage) code words files before mid after e w quiet zero = absurd (omega (arith, e, zero))
-printed-of (Err FolderFault) code words files before mid after e w quiet zero = absurd (omega (arith, e, zero))
-printed-of (Err WriteFault) code words files before mid after e w quiet zero = absurd (omega (arith, e, zero))
-printed-of (Err (NotBuilt path)) code words files before mid after e w quiet zero = absurd (omega (arith, e, zero))
+  pub usage_at : (answer : Answer) (code : ℕ) → Told answer code → code ≡ 2 → answer ≡ Err Usage
+  usage_at answer code told e = let r = refused_at answer code 2 told e (λ k. absurd (omega (arith, k))) (λ k. absurd (omega (arith, k))) in r.1 ∙ ap Err (only_2 r.0 r.2)
 
-pub in_part-of : (end : End) (code : ℕ) (words : List (List ℕ)) (files : List NamedFile) (before mid after : List ℕ) → code ≡ code_of end → Writes words files before mid end → (IsQuiet end → after ≡ mid) → code ≡ 10 → IsPrintedInPart words files before after
-in_part-of (Ok done) code words files before mid after e w quiet ten = absurd (omega (arith, e, ten))
-in_part-of (Err Memory) code words files before mid after e w quiet ten = absurd (omega (arith, e, ten))
-in_part-of (Err Usage) code words files before mid after e w quiet ten = absurd (omega (arith, e, ten))
-in_part-of (Err FolderFault) code words files before mid after e w quiet ten = absurd (omega (arith, e, ten))
-in_part-of (Err WriteFault) code words files before mid after e w quiet ten = record { text = w.text; plan = w.plan; count = w.count; written = quiet tt ∙ w.written }
-in_part-of (Err (NotBuilt path)) code words files before mid after e w quiet ten = absurd (omega (arith, e, ten))
+  pub folder_at : (answer : Answer) (code : ℕ) → Told answer code → code ≡ 5 → answer ≡ Err FolderFault
+  folder_at answer code told e = let r = refused_at answer code 5 told e (λ k. absurd (omega (arith, k))) (λ k. absurd (omega (arith, k))) in r.1 ∙ ap Err (only_5 r.0 r.2)
 
--- a line after what stayed is a line after what was before
-line-from : (before mid after line : List ℕ) (faults then now : ℕ) → mid ≡ before → faults ≤ then → IsLine mid after then now line → IsLine before after faults now line
-line-from before mid after line faults then now same later given = record {
-  count = given.count;
-  written = given.written ∙ ap (λ t. t ++ take given.count line) same;
-  whole = λ still. given.whole (λ rose. still (later-rose faults then now later rose)) ∙ ap (λ t. t ++ line) same;
-}
+  pub disk_at : (answer : Answer) (code : ℕ) → Told answer code → code ≡ 7 → answer ≡ Err DiskFault
+  disk_at answer code told e = let r = refused_at answer code 7 told e (λ k. absurd (omega (arith, k))) (λ k. absurd (omega (arith, k))) in r.1 ∙ ap Err (only_7 r.0 r.2)
 
-pub named-of : (end : End) (code : ℕ) (words : List (List ℕ)) (files : List NamedFile) (before mid after : List ℕ) (faults then now : ℕ) → code ≡ code_of end → Tells words files end → Writes words files before mid end → faults ≤ then → IsLine mid after then now (refusal_text end) → code ≡ 15 → IsNamed words files before after faults now
-named-of (Ok done) code words files before mid after faults then now e told w later line fifteen = absurd (omega (arith, e, fifteen))
-named-of (Err Memory) code words files before mid after faults then now e told w later line fifteen = absurd (omega (arith, e, fifteen))
-named-of (Err Usage) code words files before mid after faults then now e told w later line fifteen = absurd (omega (arith, e, fifteen))
-named-of (Err FolderFault) code words files before mid after faults then now e told w later line fifteen = absurd (omega (arith, e, fifteen))
-named-of (Err WriteFault) code words files before mid after faults then now e told w later line fifteen = absurd (omega (arith, e, fifteen))
-named-of (Err (NotBuilt path)) code words files before mid after faults then now e told w later line fifteen = record {
-  path = path;
-  plan = told;
-  line = line-from before mid after (not_built_text path) faults then now w later line;
-}
+  pub not_built_at : (answer : Answer) (code : ℕ) → Told answer code → code ≡ 15 → (path : List ℕ) × (answer ≡ Err (NotBuilt path)) × (tells → Line (refusal_text (NotBuilt path)))
+  not_built_at answer code told e =
+      let r = refused_at answer code 15 told e (λ k. absurd (omega (arith, k))) (λ k. absurd (omega (arith, k))) in
+      let p = only_15 r.0 r.2 in
+      (p.0, r.1 ∙ ap Err p.1, subst (λ (x : Refusal). tells → Line (refusal_text x)) p.1 r.3)
 
-line-at : (end : End) (before mid after : List ℕ) (faults then now : ℕ) → IfErr end (λ refusal. IsUnwritten refusal → mid ≡ before) → faults ≤ then → IsLine mid after then now (refusal_text end) → IfSome (line_of (code_of end)) (IsLine before after faults now)
-line-at (Ok done) before mid after faults then now same later line = tt
-line-at (Err Memory) before mid after faults then now same later line = line-from before mid after memory_line faults then now (same tt) later line
-line-at (Err Usage) before mid after faults then now same later line = line-from before mid after usage_line faults then now (same tt) later line
-line-at (Err FolderFault) before mid after faults then now same later line = line-from before mid after folder_line faults then now (same tt) later line
-line-at (Err WriteFault) before mid after faults then now same later line = tt
-line-at (Err (NotBuilt path)) before mid after faults then now same later line = tt
+  pub done_at : (answer : Answer) (code : ℕ) → Told answer code → code ≡ 0 → (text : List ℕ) × (answer ≡ Ok text) × (tells → after ≡ before ++ text)
+  done_at (Ok text) code (inl w) e = (text, refl, w.whole)
+  done_at (Ok text) code (inr p) e = absurd (omega (arith, e, p.status))
+  done_at (Err refusal) code r e = absurd (never_zero refusal (sym r.status ∙ e))
 
-pub line-of : (end : End) (code : ℕ) (before mid after : List ℕ) (faults then now : ℕ) → code ≡ code_of end → IfErr end (λ refusal. IsUnwritten refusal → mid ≡ before) → faults ≤ then → IsLine mid after then now (refusal_text end) → IfSome (line_of code) (IsLine before after faults now)
-line-of end code before mid after faults then now e same later line = subst (λ (s : ℕ). IfSome (line_of s) (IsLine before after faults now)) (sym e) (line-at end before mid after faults then now same later line)
+  pub part_at : (answer : Answer) (code : ℕ) → Told answer code → code ≡ 10 → (text : List ℕ) × (answer ≡ Ok text) × Rose faults now × (tells → (count : ℕ) × (after ≡ before ++ take count text))
+  part_at (Ok text) code (inl w) e = absurd (omega (arith, e, w.status))
+  part_at (Ok text) code (inr p) e = (text, refl, p.rose, p.part)
+  part_at (Err refusal) code r e = absurd (never_ten refusal (sym r.status ∙ e))
+
+  line_at : (refusal : Refusal) → Line (refusal_text refusal) → IfSome (line_of (code_of refusal)) Line
+  line_at Memory line = line
+  line_at Usage line = line
+  line_at UnknownRepo line = line
+  line_at FolderFault line = line
+  line_at DiskFault line = line
+  line_at (NotAJournal offset) line = tt
+  line_at (Limit which number) line = tt
+  line_at (NotBuilt path) line = tt
+
+  pub refused_line : (answer : Answer) (code : ℕ) → Told answer code → tells → IfSome (line_of code) Line
+  refused_line (Ok text) code (inl w) t = subst (λ (n : ℕ). IfSome (line_of n) Line) (sym w.status) tt
+  refused_line (Ok text) code (inr p) t = subst (λ (n : ℕ). IfSome (line_of n) Line) (sym p.status) tt
+  refused_line (Err refusal) code r t = subst (λ (n : ℕ). IfSome (line_of n) Line) (sym r.status) (line_at refusal (r.line t))
+
+-- a fault that is answered was counted
+
+pub error_of : (answer : Answer) (refusal : Refusal) → answer ≡ Err refusal → IsErrOf answer refusal
+error_of answer refusal e = subst (λ (a : Answer). IsErrOf a refusal) (sym e) refl

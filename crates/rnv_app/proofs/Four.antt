@@ -1,12 +1,16 @@
--- What four words ask for.
-use Rattle.std.proofs.Common.{◌≡◌, ◌↔◌, ℕ, List, [], ◌∷◌, length, get_or, arith, sym, subst, ap, ◌∙◌, Option, Some, None, IfOk, IfNone, Result, Ok, Err, IsErrOf}
+-- What two words and four words ask for.
+use Rattle.std.proofs.Common.{◌≡◌, ◌≢◌, ◌↔◌, ℕ, List, [], ◌∷◌, length, get_or, codes, arith, sym, subst, ap, ◌∙◌, Option, Some, None, IfNone, Result, Ok, Err, IsErrOf}
 use Rattle.rnv_base.specs.Names.{IsRepositoryName}
 use Rattle.rnv_base.specs.Moment.{IsMomentText}
 use Rattle.rnv_app.specs.declared.words.Words.{Words}
-use Rattle.rnv_app.specs.declared.words.Words.TheVariants.{Plan}
-use Rattle.rnv_app.specs.declared.words.WordsError.{WordsError}
-use Rattle.rnv_app.specs.declared.words.WordsError.TheVariants.{Usage, Memory}
-use Rattle.rnv_app.specs.Words.{IsAsked, IsPlan, AreWords, GivesPlan}
+use Rattle.rnv_app.specs.declared.words.Words.TheVariants.{Plan, Import, Show}
+use Rattle.rnv_app.specs.Words.{AreWords, IsAsked, IsCommand, IsPlan, IsUsage}
+
+pub two-elements : {X : Type 0} (xs : List X) (a b : X) → length xs ≡ 2 → a ≡ get_or xs 0 a → b ≡ get_or xs 1 b → xs ≡ a ∷ b ∷ []
+two-elements [] a b len ha hb = absurd (omega arith)
+two-elements (v ∷ []) a b len ha hb = absurd (omega arith)
+two-elements (v ∷ w ∷ []) a b len ha hb = cc
+two-elements (v ∷ w ∷ x ∷ xs) a b len ha hb = absurd (omega arith)
 
 pub four-elements : {X : Type 0} (xs : List X) (a b c d : X) → length xs ≡ 4 → a ≡ get_or xs 0 a → b ≡ get_or xs 1 b → c ≡ get_or xs 2 c → d ≡ get_or xs 3 d → xs ≡ a ∷ b ∷ c ∷ d ∷ []
 four-elements [] a b c d len ha hb hc hd = absurd (omega arith)
@@ -32,13 +36,51 @@ asked-of words a b c d is repo now plan =
       timed = subst (λ (t : List ℕ). IsMomentText t now) fourth plan.asked.timed;
     }
 
--- four words for which no moment is asked are no plan
-pub not-asked : (words : List (List ℕ)) (a b c d : List ℕ) → words ≡ a ∷ b ∷ c ∷ d ∷ [] → ((now : ℕ) → ¬ (IsAsked a b c d now)) → (repo : List ℕ) (now : ℕ) → ¬ (IsPlan words repo now)
-not-asked words a b c d is none repo now plan = none now (asked-of words a b c d is repo now plan)
+not-four : (words : List (List ℕ)) → ¬ (length words ≡ 4) → (repo : List ℕ) (now : ℕ) → ¬ (IsPlan words repo now)
+not-four words other repo now plan = other (ap length plan.four)
 
--- a plan is of four words
-pub plan-four : (words : List (List ℕ)) → ¬ (length words ≡ 4) → (repo : List ℕ) (now : ℕ) → ¬ (IsPlan words repo now)
-plan-four words other repo now plan = other (ap length plan.four)
+not-two : (words : List (List ℕ)) (name : List ℕ) → ¬ (length words ≡ 2) → (repo : List ℕ) → ¬ (IsCommand name words repo)
+not-two words name other repo asked = other (ap length asked.two)
+
+-- words of another number
+pub usage-other : (words : List (List ℕ)) → ¬ (length words ≡ 2) → ¬ (length words ≡ 4) → IsUsage words
+usage-other words two four = record { plan = not-four words four; import = not-two words (codes "import") two; show = not-two words (codes "show") two }
+
+-- four words for which no moment is asked
+pub usage-four : (words : List (List ℕ)) (a b c d : List ℕ) → words ≡ a ∷ b ∷ c ∷ d ∷ [] → ((now : ℕ) → ¬ (IsAsked a b c d now)) → IsUsage words
+usage-four words a b c d is none =
+    let four : ¬ (length words ≡ 2) = λ two. absurd (omega (arith, two, ap length is)) in
+    record { plan = λ repo now plan. none now (asked-of words a b c d is repo now plan); import = not-two words (codes "import") four; show = not-two words (codes "show") four }
+
+parts-of : (words : List (List ℕ)) (a b name repo : List ℕ) → words ≡ a ∷ b ∷ [] → IsCommand name words repo → (name ≡ a) × (repo ≡ b)
+parts-of words a b name repo is asked =
+    let same : name ∷ repo ∷ [] ≡ a ∷ b ∷ [] = sym asked.two ∙ is in
+    (ap (λ (l : List (List ℕ)). get_or l 0 []) same, ap (λ (l : List (List ℕ)). get_or l 1 []) same)
+
+two-not-four : (words : List (List ℕ)) (a b : List ℕ) → words ≡ a ∷ b ∷ [] → ¬ (length words ≡ 4)
+two-not-four words a b is four = absurd (omega (arith, four, ap length is))
+
+-- two words of which the second is no name
+pub usage-name : (words : List (List ℕ)) (a b : List ℕ) → words ≡ a ∷ b ∷ [] → ¬ (IsRepositoryName b) → IsUsage words
+usage-name words a b is other = record {
+  plan = not-four words (two-not-four words a b is);
+  import = λ repo asked. other (subst IsRepositoryName (parts-of words a b (codes "import") repo is asked).1 asked.name);
+  show = λ repo asked. other (subst IsRepositoryName (parts-of words a b (codes "show") repo is asked).1 asked.name);
+}
+
+-- two words of which the first is no command
+pub usage-command : (words : List (List ℕ)) (a b : List ℕ) → words ≡ a ∷ b ∷ [] → a ≢ codes "import" → a ≢ codes "show" → IsUsage words
+usage-command words a b is import show = record {
+  plan = not-four words (two-not-four words a b is);
+  import = λ repo asked. import (sym (parts-of words a b (codes "import") repo is asked).0);
+  show = λ repo asked. show (sym (parts-of words a b (codes "show") repo is asked).0);
+}
+
+-- words that ask for something
+pub asks : (words : List (List ℕ)) (w : Words) → AreWords words w → ¬ (IsUsage words)
+asks words (Plan repo now) is usage = usage.plan repo now is
+asks words (Import repo) is usage = usage.import repo is
+asks words (Show repo) is usage = usage.show repo is
 
 -- words ask for one repository
 pub one-repo : (words : List (List ℕ)) (repo other : List ℕ) (now then : ℕ) → IsPlan words repo now → IsPlan words other then → repo ≡ other
@@ -49,14 +91,3 @@ one-repo words repo other now then plan again =
 pub none-from : (r : Option ℕ) (P Q : ℕ → Type 0) → ((m : ℕ) → (r ≡ Some m) ↔ P m) → ((m : ℕ) → Q m → P m) → IfNone r ((m : ℕ) → ¬ (Q m))
 none-from None P Q exactly weaker = λ m q. cc ((exactly m).1 (weaker m q))
 none-from (Some x) P Q exactly weaker = tt
-
--- what the words of a plan give
-pub read-plan : (words : List (List ℕ)) (repo : List ℕ) (now : ℕ) (result : Result Words WordsError) → IsPlan words repo now → GivesPlan repo now result → IfOk result (AreWords words)
-read-plan words repo now (Ok (Plan r n)) plan given = subst (λ (m : ℕ). IsPlan words r m) (sym given.1) (subst (λ (q : List ℕ). IsPlan words q now) (sym given.0) plan)
-read-plan words repo now (Err Usage) plan given = tt
-read-plan words repo now (Err Memory) plan given = tt
-
-pub never-usage : (words : List (List ℕ)) (repo : List ℕ) (now : ℕ) (result : Result Words WordsError) → IsPlan words repo now → GivesPlan repo now result → IsErrOf result Usage ↔ ((r : List ℕ) (n : ℕ) → ¬ (IsPlan words r n))
-never-usage words repo now (Ok (Plan r n)) plan given = (λ is. absurd (cc is), λ none. absurd (none repo now plan))
-never-usage words repo now (Err Usage) plan given = absurd given
-never-usage words repo now (Err Memory) plan given = (λ is. absurd (cc is), λ none. absurd (none repo now plan))

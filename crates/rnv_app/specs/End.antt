@@ -1,18 +1,32 @@
 -- How the program ends.
-use Rattle.std.specs.Prelude.{◌≡◌, ℕ, List, [], ◌∷◌, ◌++◌, take, true, ◌==◌, if◌then◌else◌, Option, Some, None, Result, Ok, Err, codes}
+use Rattle.std.specs.Prelude.{◌≡◌, ◌⊎◌, ℕ, List, [], ◌∷◌, ◌++◌, take, true, ◌==◌, if◌then◌else◌, Option, Some, None, Result, Ok, Err, codes}
+use Rattle.std.specs.Fmt.{decimal}
 use Rattle.std.specs.List.{list_any}
 use Rattle.rnv_base.specs.Causes.{Rose}
 use Rattle.rnv_app.specs.declared.end.Refusal.{Refusal}
-use Rattle.rnv_app.specs.declared.end.Refusal.TheVariants.{Memory, Usage, FolderFault, WriteFault, NotBuilt}
+use Rattle.rnv_app.specs.declared.end.Refusal.TheVariants.{Memory, Usage, UnknownRepo, FolderFault, DiskFault, NotAJournal, Limit, NotBuilt}
+use Rattle.rnv_commands.specs.declared.error.CommandError.{CommandError}
+use Rattle.rnv_commands.specs.declared.error.CommandError.TheVariants as command
 
--- the status
-abbrev pub code_of : Result (Unit {0}) Refusal → ℕ
-code_of (Ok done) = 0
-code_of (Err Memory) = 1
-code_of (Err Usage) = 2
-code_of (Err FolderFault) = 5
-code_of (Err WriteFault) = 10
-code_of (Err (NotBuilt path)) = 15
+-- the status of a refusal
+abbrev pub code_of : Refusal → ℕ
+code_of Memory = 1
+code_of Usage = 2
+code_of UnknownRepo = 3
+code_of FolderFault = 5
+code_of DiskFault = 7
+code_of (NotAJournal offset) = 8
+code_of (Limit which number) = 11
+code_of (NotBuilt path) = 15
+
+-- the refusal of a command over the store
+abbrev pub refusal_of : CommandError → Refusal
+refusal_of command.Memory = Memory
+refusal_of command.UnknownRepo = UnknownRepo
+refusal_of command.FolderFault = FolderFault
+refusal_of command.DiskFault = DiskFault
+refusal_of (command.NotAJournal offset) = NotAJournal offset
+refusal_of (command.Limit which number) = Limit which number
 
 abbrev pub not_yet : List ℕ
 not_yet = codes " is not built yet" ++ 10 ∷ []
@@ -20,55 +34,75 @@ not_yet = codes " is not built yet" ++ 10 ∷ []
 abbrev pub not_built_text : List ℕ → List ℕ
 not_built_text path = codes "error 15: " ++ (path ++ not_yet)
 
+abbrev pub damaged_text : ℕ → List ℕ
+damaged_text offset = codes "error 8: not a journal at " ++ (decimal offset ++ 10 ∷ [])
+
+abbrev pub above_text : List ℕ → ℕ → List ℕ
+above_text which number = codes "error 11: more than " ++ (decimal number ++ (codes " " ++ (which ++ 10 ∷ [])))
+
 abbrev pub memory_line : List ℕ
 memory_line = codes "error 1: out of memory" ++ 10 ∷ []
 
 abbrev pub usage_line : List ℕ
 usage_line = codes "error 2: usage" ++ 10 ∷ []
 
+abbrev pub unknown_line : List ℕ
+unknown_line = codes "error 3: unknown repository" ++ 10 ∷ []
+
 abbrev pub folder_line : List ℕ
 folder_line = codes "error 5: folder fault" ++ 10 ∷ []
 
--- the line that is printed for it, if there is one
-abbrev pub refusal_text : Result (Unit {0}) Refusal → List ℕ
-refusal_text (Ok done) = []
-refusal_text (Err Memory) = memory_line
-refusal_text (Err Usage) = usage_line
-refusal_text (Err FolderFault) = folder_line
-refusal_text (Err WriteFault) = []
-refusal_text (Err (NotBuilt path)) = not_built_text path
+abbrev pub disk_line : List ℕ
+disk_line = codes "error 7: disk fault" ++ 10 ∷ []
 
--- nothing is printed for it
-abbrev pub IsQuiet : Result (Unit {0}) Refusal → Type 0
-IsQuiet (Ok done) = Unit {0}
-IsQuiet (Err Memory) = ⊥
-IsQuiet (Err Usage) = ⊥
-IsQuiet (Err FolderFault) = ⊥
-IsQuiet (Err WriteFault) = Unit {0}
-IsQuiet (Err (NotBuilt path)) = ⊥
-
--- the output has not failed
-abbrev pub IsUnwritten : Refusal → Type 0
-IsUnwritten Memory = Unit {0}
-IsUnwritten Usage = Unit {0}
-IsUnwritten FolderFault = Unit {0}
-IsUnwritten WriteFault = ⊥
-IsUnwritten (NotBuilt path) = Unit {0}
+-- the line that is printed for a refusal
+abbrev pub refusal_text : Refusal → List ℕ
+refusal_text Memory = memory_line
+refusal_text Usage = usage_line
+refusal_text UnknownRepo = unknown_line
+refusal_text FolderFault = folder_line
+refusal_text DiskFault = disk_line
+refusal_text (NotAJournal offset) = damaged_text offset
+refusal_text (Limit which number) = above_text which number
+refusal_text (NotBuilt path) = not_built_text path
 
 -- the statuses that there are
 abbrev pub IsStatus : ℕ → Type 0
-IsStatus code = list_any (λ s. s == code) (0 ∷ 1 ∷ 2 ∷ 5 ∷ 10 ∷ 15 ∷ []) ≡ true
+IsStatus code = list_any (λ s. s == code) (0 ∷ 1 ∷ 2 ∷ 3 ∷ 5 ∷ 7 ∷ 8 ∷ 10 ∷ 11 ∷ 15 ∷ []) ≡ true
 
 -- the statuses of a plan that is not built yet: 15, unless memory runs out or the folder fails before
 abbrev pub IsUnbuiltStatus : ℕ → Type 0
 IsUnbuiltStatus code = list_any (λ s. s == code) (1 ∷ 5 ∷ 15 ∷ []) ≡ true
 
--- the line of a status that names no path
+-- the line of a status that names nothing
 abbrev pub line_of : ℕ → Option (List ℕ)
-line_of code = if code == 1 then Some memory_line else (if code == 2 then Some usage_line else (if code == 5 then Some folder_line else None))
+line_of code =
+    if code == 1 then Some memory_line else (if code == 2 then Some usage_line else (if code == 3 then Some unknown_line
+    else (if code == 5 then Some folder_line else (if code == 7 then Some disk_line else None))))
 
 -- a front part of a line was written, and the whole line where no fault was counted
 pub record IsLine (before after : List ℕ) (faults now : ℕ) (line : List ℕ) : Type 0 where
   pub count : ℕ
   pub written : after ≡ before ++ take count line
   pub whole : ¬ (Rose faults now) → after ≡ before ++ line
+
+-- a front part of a text was written, and a fault was counted
+pub record IsWrittenInPart (tells : Type 0) (before after : List ℕ) (faults now : ℕ) (text : List ℕ) (code : ℕ) : Type 0 where
+  pub status : code ≡ 10
+  pub rose : Rose faults now
+  pub part : tells → (count : ℕ) × (after ≡ before ++ take count text)
+
+-- the whole text was written
+pub record IsWritten (tells : Type 0) (before after text : List ℕ) (code : ℕ) : Type 0 where
+  pub status : code ≡ 0
+  pub whole : tells → after ≡ before ++ text
+
+-- the line of a refusal was written as far as the output took it
+pub record IsRefused (tells : Type 0) (before after : List ℕ) (faults now : ℕ) (refusal : Refusal) (code : ℕ) : Type 0 where
+  pub status : code ≡ code_of refusal
+  pub line : tells → IsLine before after faults now (refusal_text refusal)
+
+-- What is written and which status comes of a text, or of a refusal: 0 and the text, or 10 and a front part of it; or the refusal's status and line.
+abbrev pub IsTold : Type 0 → List ℕ → List ℕ → ℕ → ℕ → Result (List ℕ) Refusal → ℕ → Type 0
+IsTold tells before after faults now (Ok text) code = IsWritten tells before after text code ⊎ IsWrittenInPart tells before after faults now text code
+IsTold tells before after faults now (Err refusal) code = IsRefused tells before after faults now refusal code

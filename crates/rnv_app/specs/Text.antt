@@ -1,27 +1,18 @@
 -- What a plan prints.
-use Rattle.std.specs.Prelude.{ℕ, List, [], ◌∷◌, ◌++◌, length, map, sum_by, ◌||◌, ◌==◌, nat_lt, if◌then◌else◌, codes}
+use Rattle.std.specs.Prelude.{ℕ, List, ◌++◌, length, sum_by, codes}
 use Rattle.std.specs.List.{flat_map}
 use Rattle.std.specs.Fmt.{decimal}
 use Rattle.rnv_base.specs.declared.kinds.UpdateKind.{UpdateKind}
 use Rattle.rnv_base.specs.declared.kinds.UpdateKind.TheVariants as kind
+use Rattle.rnv_commands.specs.Printing.{line_end, shown}
 use Rattle.rnv_pick.specs.declared.update.Update.{Update}
 use Rattle.rnv_plan.specs.declared.item.Item.{Item}
-
--- a control character is printed as a space
-abbrev pub shown_byte : ℕ → ℕ
-shown_byte b = if nat_lt b 32 || (b == 127) then 32 else b
-
-abbrev pub shown : List ℕ → List ℕ
-shown text = map shown_byte text
 
 abbrev pub kind_word : UpdateKind → List ℕ
 kind_word kind.Pin = codes "pin"
 kind_word kind.Patch = codes "patch"
 kind_word kind.Minor = codes "minor"
 kind_word kind.Major = codes "major"
-
-abbrev pub line_end : List ℕ
-line_end = 10 ∷ []
 
 -- `PATH PACKAGE `
 abbrev pub subject : Update → List ℕ

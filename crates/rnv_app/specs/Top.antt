@@ -1,14 +1,21 @@
--- What the program does for its words over the told files of a folder.
-use Rattle.std.specs.Prelude.{◌≡◌, ℕ, List, ◌++◌, take, Result, Ok, Err}
+-- What the program does for its words, over the told files of a folder and the told bytes of a disk.
+use Rattle.std.specs.Prelude.{◌≡◌, ◌≢◌, ◌⊎◌, ℕ, List, ◌++◌, take, Result, Ok, Err, IfErr, IfOk}
 use Rattle.rnv_base.specs.Files.{NamedFile}
 use Rattle.rnv_base.specs.Moment.{IsMomentText}
+use Rattle.rnv_commands.specs.OnDisk.{HasImported, IsNotImported, IsNotShown, IsReadingOrImport, IsShownOf}
+use Rattle.rnv_commands.specs.declared.error.CommandError.{CommandError}
+use Rattle.rnv_commands.specs.declared.error.CommandError.TheVariants.{DiskFault as disk_fault}
+use Rattle.rnv_disk.specs.Stops.{Past}
+use Rattle.rnv_journal.specs.Readings.{HasReadingsNow, KeepsReadings, ReadsOnly}
 use Rattle.rnv_plan.specs.declared.item.Item.{Item}
 use Rattle.rnv_plan.specs.Unbuilt.{IsPlanned, IsUnbuilt}
 use Rattle.rnv_app.specs.declared.end.Refusal.{Refusal}
-use Rattle.rnv_app.specs.declared.end.Refusal.TheVariants.{Memory, Usage, FolderFault, WriteFault, NotBuilt}
-use Rattle.rnv_app.specs.Words.{IsPlan}
+use Rattle.rnv_app.specs.declared.end.Refusal.TheVariants.{Memory, Usage, UnknownRepo, FolderFault, DiskFault, NotAJournal, Limit, NotBuilt}
+use Rattle.rnv_app.specs.Words.{IsImport, IsPlan, IsShow, IsUsage}
 use Rattle.rnv_app.specs.Text.{plan_text}
-use Rattle.rnv_app.specs.End.{not_built_text, IsLine}
+use Rattle.rnv_app.specs.End.{not_built_text, refusal_of, IsLine, IsTold}
+
+-- plan
 
 -- the words ask for a plan, for which the files give items: its text
 pub record HasPlan (words : List (List ℕ)) (files : List NamedFile) (text : List ℕ) : Type 0 where
@@ -29,18 +36,28 @@ pub record HasNoPlan (words : List (List ℕ)) (files : List NamedFile) (path : 
   pub asked : IsPlan words repo now
   pub unbuilt : IsUnbuilt repo files path
 
--- a plan was made
-abbrev pub IsPlannedFor : List (List ℕ) → List NamedFile → Type 0
-IsPlannedFor words files = (text : List ℕ) × HasPlan words files text
-
--- what an end tells of the words and the files
-abbrev pub Tells : List (List ℕ) → List NamedFile → Result (Unit {0}) Refusal → Type 0
-Tells words files (Ok done) = IsPlannedFor words files
+-- what the text of a plan, or its refusal, tells of the words and the files
+abbrev pub Tells : List (List ℕ) → List NamedFile → Result (List ℕ) Refusal → Type 0
+Tells words files (Ok text) = HasPlan words files text
 Tells words files (Err Memory) = Unit {0}
-Tells words files (Err Usage) = Unit {0}
+Tells words files (Err Usage) = ⊥
+Tells words files (Err UnknownRepo) = ⊥
 Tells words files (Err FolderFault) = Unit {0}
-Tells words files (Err WriteFault) = IsPlannedFor words files
+Tells words files (Err DiskFault) = ⊥
+Tells words files (Err (NotAJournal offset)) = ⊥
+Tells words files (Err (Limit which number)) = ⊥
 Tells words files (Err (NotBuilt path)) = HasNoPlan words files path
+
+-- the refusals of a plan
+abbrev pub IsPlanRefusal : Refusal → Type 0
+IsPlanRefusal Memory = Unit {0}
+IsPlanRefusal Usage = ⊥
+IsPlanRefusal UnknownRepo = ⊥
+IsPlanRefusal FolderFault = Unit {0}
+IsPlanRefusal DiskFault = ⊥
+IsPlanRefusal (NotAJournal offset) = ⊥
+IsPlanRefusal (Limit which number) = ⊥
+IsPlanRefusal (NotBuilt path) = Unit {0}
 
 -- the whole text was written
 pub record IsPrinted (words : List (List ℕ)) (files : List NamedFile) (before after : List ℕ) : Type 0 where
@@ -54,15 +71,6 @@ pub record IsPrintedInPart (words : List (List ℕ)) (files : List NamedFile) (b
   pub plan : HasPlan words files text
   pub count : ℕ
   pub written : after ≡ before ++ take count text
-
--- what an end tells of the output
-abbrev pub Writes : List (List ℕ) → List NamedFile → List ℕ → List ℕ → Result (Unit {0}) Refusal → Type 0
-Writes words files before after (Ok done) = IsPrinted words files before after
-Writes words files before after (Err Memory) = after ≡ before
-Writes words files before after (Err Usage) = after ≡ before
-Writes words files before after (Err FolderFault) = after ≡ before
-Writes words files before after (Err WriteFault) = IsPrintedInPart words files before after
-Writes words files before after (Err (NotBuilt path)) = after ≡ before
 
 -- the words ask for a plan that is not built yet
 abbrev pub IsNotBuilt : List (List ℕ) → List NamedFile → Type 0
@@ -80,3 +88,80 @@ pub record IsNamed (words : List (List ℕ)) (files : List NamedFile) (before af
   pub path : List ℕ
   pub plan : HasNoPlan words files path
   pub line : IsLine before after faults now (not_built_text path)
+
+-- import and show
+
+-- What is told of the folder and of the disk: its file `Zero` before, what stops may leave before and after, and whether it is the
+-- one that was handed in.
+pub record Sight : Type 1 where
+  pub folder_tells : Type 0
+  pub files : List NamedFile
+  pub disk_tells : Type 0
+  pub file : List ℕ
+  pub entry : Past
+  pub exit : Past
+  pub same_disk : Type 0
+
+-- What an import makes of the disk. From a disk that has readings a stop at any moment leaves one of these, or one of these and the one
+-- write that makes the base the folder's files; where it is refused, but for a fault of the disk, one of these. A text tells that the
+-- store has the folder's files as base; a refusal tells its cause.
+pub record Imports (s : Sight) (repo : List ℕ) (answer : Result (List ℕ) CommandError) : Type 0 where
+  pub stops : HasReadingsNow 268435456 s.entry → ReadsOnly 268435456 s.entry s.exit (IsReadingOrImport s.folder_tells s.files repo 268435456 s.entry)
+  pub unwritten : IfErr answer (λ error. error ≢ disk_fault → KeepsReadings 268435456 s.entry s.exit)
+  pub imported : s.disk_tells → IfOk answer (HasImported s.folder_tells s.files repo 268435456 s.file s.exit)
+  pub refused : s.disk_tells → IfErr answer (IsNotImported s.folder_tells s.files repo 268435456 s.file)
+
+-- What is shown of the disk, on which nothing is written.
+pub record IsShowing (s : Sight) (repo : List ℕ) (answer : Result (List ℕ) CommandError) : Type 0 where
+  pub stops : KeepsReadings 268435456 s.entry s.exit
+  pub shown : s.disk_tells → IfOk answer (IsShownOf repo 268435456 s.file)
+  pub refused : s.disk_tells → IfErr answer (IsNotShown repo 268435456 s.file)
+
+-- the text of a command over the store, or its refusal as the program's
+abbrev pub refusing : Result (List ℕ) CommandError → Result (List ℕ) Refusal
+refusing (Ok text) = Ok text
+refusing (Err error) = Err (refusal_of error)
+
+-- An import, its status and what is written: the answer's text with 0, a front part of it with 10, or its refusal's status and line.
+pub record IsImportEnd (s : Sight) (repo : List ℕ) (out_tells : Type 0) (before after : List ℕ) (faults now : ℕ) (code : ℕ) : Type 0 where
+  pub answer : Result (List ℕ) CommandError
+  pub told : IsTold out_tells before after faults now (refusing answer) code
+  pub imports : Imports s repo answer
+
+-- the same of a repository that is shown
+pub record IsShowEnd (s : Sight) (repo : List ℕ) (out_tells : Type 0) (before after : List ℕ) (faults now : ℕ) (code : ℕ) : Type 0 where
+  pub answer : Result (List ℕ) CommandError
+  pub told : IsTold out_tells before after faults now (refusing answer) code
+  pub showing : IsShowing s repo answer
+
+-- the text or refusal that the words give
+
+pub record IsForPlan (s : Sight) (words : List (List ℕ)) (text : Result (List ℕ) Refusal) : Type 0 where
+  pub repo : List ℕ
+  pub now : ℕ
+  pub asked : IsPlan words repo now
+  pub same : s.same_disk
+  pub plain : IfErr text IsPlanRefusal
+  pub told : s.folder_tells → Tells words s.files text
+
+pub record IsForImport (s : Sight) (words : List (List ℕ)) (text : Result (List ℕ) Refusal) : Type 0 where
+  pub repo : List ℕ
+  pub asked : IsImport words repo
+  pub answer : Result (List ℕ) CommandError
+  pub is : text ≡ refusing answer
+  pub imports : Imports s repo answer
+
+pub record IsForShow (s : Sight) (words : List (List ℕ)) (text : Result (List ℕ) Refusal) : Type 0 where
+  pub repo : List ℕ
+  pub asked : IsShow words repo
+  pub answer : Result (List ℕ) CommandError
+  pub is : text ≡ refusing answer
+  pub showing : IsShowing s repo answer
+
+pub record IsForNone (s : Sight) (words : List (List ℕ)) (text : Result (List ℕ) Refusal) : Type 0 where
+  pub same : s.same_disk
+  pub keeps : KeepsReadings 268435456 s.entry s.exit
+  pub refused : ((text ≡ Err Usage) × IsUsage words) ⊎ ((text ≡ Err Memory) × ¬ (IsUsage words))
+
+abbrev pub IsAnswered : Sight → List (List ℕ) → Result (List ℕ) Refusal → Type 0
+IsAnswered s words text = IsForPlan s words text ⊎ (IsForImport s words text ⊎ (IsForShow s words text ⊎ IsForNone s words text))

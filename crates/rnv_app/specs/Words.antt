@@ -1,11 +1,9 @@
 -- What the program's words ask for.
-use Rattle.std.specs.Prelude.{◌≡◌, ℕ, List, [], ◌∷◌, codes, Result, Ok, Err}
+use Rattle.std.specs.Prelude.{◌≡◌, ℕ, List, [], ◌∷◌, codes}
 use Rattle.rnv_base.specs.Names.{IsRepositoryName}
 use Rattle.rnv_base.specs.Moment.{IsMoment, IsMomentText}
 use Rattle.rnv_app.specs.declared.words.Words.{Words}
-use Rattle.rnv_app.specs.declared.words.Words.TheVariants.{Plan}
-use Rattle.rnv_app.specs.declared.words.WordsError.{WordsError}
-use Rattle.rnv_app.specs.declared.words.WordsError.TheVariants.{Usage, Memory}
+use Rattle.rnv_app.specs.declared.words.Words.TheVariants.{Plan, Import, Show}
 
 -- four words are `plan`, a repository name, `--now` and the text of a moment
 pub record IsAsked (command repo flag time : List ℕ) (now : ℕ) : Type 0 where
@@ -23,11 +21,26 @@ pub record IsPlan (words : List (List ℕ)) (repo : List ℕ) (now : ℕ) : Type
   pub four : words ≡ command ∷ repo ∷ flag ∷ time ∷ []
   pub asked : IsAsked command repo flag time now
 
+-- a command and a repository name
+pub record IsCommand (command : List ℕ) (words : List (List ℕ)) (repo : List ℕ) : Type 0 where
+  pub two : words ≡ command ∷ repo ∷ []
+  pub name : IsRepositoryName repo
+
+-- `import REPO`
+abbrev pub IsImport : List (List ℕ) → List ℕ → Type 0
+IsImport words repo = IsCommand (codes "import") words repo
+
+-- `show REPO`
+abbrev pub IsShow : List (List ℕ) → List ℕ → Type 0
+IsShow words repo = IsCommand (codes "show") words repo
+
 abbrev pub AreWords : List (List ℕ) → Words → Type 0
 AreWords words (Plan repo now) = IsPlan words repo now
+AreWords words (Import repo) = IsImport words repo
+AreWords words (Show repo) = IsShow words repo
 
--- this plan, unless memory runs out
-abbrev pub GivesPlan : List ℕ → ℕ → Result Words WordsError → Type 0
-GivesPlan repo now (Ok (Plan r n)) = (r ≡ repo) × (n ≡ now)
-GivesPlan repo now (Err Usage) = ⊥
-GivesPlan repo now (Err Memory) = Unit {0}
+-- other words than these
+pub record IsUsage (words : List (List ℕ)) : Type 0 where
+  pub plan : (repo : List ℕ) (now : ℕ) → ¬ (IsPlan words repo now)
+  pub import : (repo : List ℕ) → ¬ (IsImport words repo)
+  pub show : (repo : List ℕ) → ¬ (IsShow words repo)

@@ -1,33 +1,59 @@
 ghost use Rattle.std.specs.Prelude.{◌≡◌};
-ghost use Rattle.rnv_app.specs.End.{code_of};
+ghost use Rattle.rnv_app.specs.End.{code_of, refusal_of};
 
 use rnv_base::Text;
+use rnv_commands::CommandError;
 
-/// Why the program ended before all of its work was done and printed.
+/// Why the program printed nothing but this.
 #[derive(Debug, Drop)]
 pub enum Refusal {
     /// Want of memory.
     Memory,
-    /// The words are not of the form that the program takes.
+    /// The words are not of a form that the program takes.
     Usage,
+    /// The store, or for an import the folder, has no such repository.
+    UnknownRepo,
     /// The folder failed, and has counted the fault.
     FolderFault,
-    /// The output failed, and has counted the fault.
-    WriteFault,
+    /// The disk failed, and has counted the fault.
+    DiskFault,
+    /// The bytes on the disk are no store; at this offset they go wrong.
+    NotAJournal { offset: u64 },
+    /// A quantity is above its limit.
+    Limit { which: Text, number: u64 },
     /// What stands at this path is not built yet.
     NotBuilt { path: Text },
 }
 
-/// The status with which the program ends.
-pub fn code(end: &Result<(), Refusal>) -> u8
-    ensures { result ≡ code_of end.now }
+/// The status of a refusal.
+pub fn code(refusal: &Refusal) -> u8
+    ensures { result ≡ code_of refusal.now }
 {
-    match end {
-        Ok(()) => 0,
-        Err(Refusal::Memory) => 1,
-        Err(Refusal::Usage) => 2,
-        Err(Refusal::FolderFault) => 5,
-        Err(Refusal::WriteFault) => 10,
-        Err(Refusal::NotBuilt { path: _ }) => 15,
+    match refusal {
+        Refusal::Memory => 1,
+        Refusal::Usage => 2,
+        Refusal::UnknownRepo => 3,
+        Refusal::FolderFault => 5,
+        Refusal::DiskFault => 7,
+        Refusal::NotAJournal { offset: _ } => 8,
+        Refusal::Limit {
+            which: _,
+            number: _,
+        } => 11,
+        Refusal::NotBuilt { path: _ } => 15,
+    }
+}
+
+/// The refusal of a command over the store.
+pub fn refusal_of(error: CommandError) -> Refusal
+    ensures { result ≡ refusal_of error }
+{
+    match error {
+        CommandError::Memory => Refusal::Memory,
+        CommandError::UnknownRepo => Refusal::UnknownRepo,
+        CommandError::FolderFault => Refusal::FolderFault,
+        CommandError::DiskFault => Refusal::DiskFault,
+        CommandError::NotAJournal { offset } => Refusal::NotAJournal { offset },
+        CommandError::Limit { which, number } => Refusal::Limit { which, number },
     }
 }

@@ -5,6 +5,8 @@ mod end;
 mod plan_text;
 mod report;
 #[cfg(test)]
+mod store_tests;
+#[cfg(test)]
 mod tests;
 mod top;
 mod words;

@@ -1,9 +1,10 @@
 ghost use Rattle.std.specs.Prelude.{◌≡◌, ◌++◌, ℕ, List as Items, map, OnOk, IfOk};
 ghost use Rattle.std.specs.List.{flat_map};
 ghost use Rattle.rnv_base.specs.Moment.{IsMoment, IsMomentText};
-ghost use Rattle.rnv_app.specs.Text.{shown_byte, shown, kind_word, subject, change, target, line, item_lines, count, summary, plan_text};
+ghost use Rattle.rnv_app.specs.Text.{kind_word, subject, change, target, line, item_lines, count, summary, plan_text};
 
 use rnv_base::{List, UpdateKind, moment_text};
+use rnv_commands::{add, add_shown};
 use rnv_pick::Update;
 use rnv_plan::Item;
 use std::alloc::{AllocError, Global};
@@ -23,33 +24,6 @@ pub fn plan_text(alloc: Global, now: u64, items: &List<Item>) -> Result<Vec<u8>,
     add_items(&mut text, items.as_slice())?;
     add_summary(alloc, &mut text, items.as_slice())?;
     Ok(text)
-}
-
-// Puts a text at the end.
-fn add(out: &mut Vec<u8>, text: &str) -> Result<(), AllocError>
-    ensures { OnOk result (out.new.items ≡ out.old.items ++ text.now) }
-{
-    out.extend_from_slice(text.as_bytes())
-}
-
-// Puts a text from outside at the end, each control character as a space.
-fn add_shown(out: &mut Vec<u8>, text: &str) -> Result<(), AllocError>
-    ensures { OnOk result (out.new.items ≡ out.old.items ++ shown text.now) }
-{
-    for byte in text.as_bytes() {
-        out.push(shown_byte(*byte))?;
-    }
-    Ok(())
-}
-
-fn shown_byte(byte: u8) -> u8
-    ensures { result ≡ shown_byte byte }
-{
-    if byte < b' ' || byte == 127 {
-        b' '
-    } else {
-        byte
-    }
 }
 
 fn kind_word(kind: UpdateKind) -> &'static str

@@ -1,24 +1,45 @@
-ghost use Rattle.std.specs.Prelude.{◌≡◌, ◌≤◌, ◌++◌, ℕ, List as Items, take};
-ghost use Rattle.rnv_app.specs.End.{refusal_text, not_yet, not_built_text, IsLine, IsQuiet};
+ghost use Rattle.std.specs.Prelude.{◌≡◌, ◌≤◌, ◌++◌, ◌∷◌, ℕ, [], codes};
+ghost use Rattle.std.specs.Fmt.{decimal};
+ghost use Rattle.rnv_app.specs.End.{IsLine, IsTold, above_text, damaged_text, not_built_text, refusal_text};
 
 use crate::Refusal;
-use rnv_base::{Sink, write_all};
-use std::convert::AsStr;
+use crate::end::code;
+use itoa::Buffer;
+use rnv_base::{List, Sink, write_all};
+use std::convert::{AsSlice, AsStr};
 
-/// Writes the line of a refusal as far as the output takes it; a fault of this write changes nothing.
-/// Writes nothing where all was done, or where the output has failed.
-#[tactic(auto, using(crate::proofs::Parts::line_none))]
-pub fn report<K: Sink>(out: &mut K, end: &Result<(), Refusal>)
-    ensures quiet { IsQuiet end.now → out.new ≡ out.old }
-    ensures line { K.tells → IsLine (K.held out.old) (K.held out.new) (K.faults out.old) (K.faults out.new) (refusal_text end.now) }
+/// Writes a text and gives 0, or 10 where the output failed; or writes the line of a refusal as far as
+/// the output takes it, and gives its status.
+pub fn tell<K: Sink>(out: &mut K, text: &Result<List<u8>, Refusal>) -> u8
+    ensures told { IsTold K.tells (K.held out.old) (K.held out.new) (K.faults out.old) (K.faults out.new) text.now result }
     ensures later { K.faults out.old ≤ K.faults out.new }
 {
-    match end {
-        Ok(()) | Err(Refusal::WriteFault) => {}
-        Err(Refusal::Memory) => write_line(out, b"error 1: out of memory\n"),
-        Err(Refusal::Usage) => write_line(out, b"error 2: usage\n"),
-        Err(Refusal::FolderFault) => write_line(out, b"error 5: folder fault\n"),
-        Err(Refusal::NotBuilt { path }) => write_not_built(out, path.as_str().as_bytes()),
+    match text {
+        Ok(text) => match write_all(out, text.as_slice()) {
+            Ok(()) => 0,
+            Err(_) => 10,
+        },
+        Err(refusal) => {
+            report(out, refusal);
+            code(refusal)
+        }
+    }
+}
+
+// Writes the line of a refusal as far as the output takes it; a fault of this write changes nothing.
+fn report<K: Sink>(out: &mut K, refusal: &Refusal)
+    ensures line { K.tells → IsLine (K.held out.old) (K.held out.new) (K.faults out.old) (K.faults out.new) (refusal_text refusal.now) }
+    ensures later { K.faults out.old ≤ K.faults out.new }
+{
+    match refusal {
+        Refusal::Memory => write_line(out, b"error 1: out of memory\n"),
+        Refusal::Usage => write_line(out, b"error 2: usage\n"),
+        Refusal::UnknownRepo => write_line(out, b"error 3: unknown repository\n"),
+        Refusal::FolderFault => write_line(out, b"error 5: folder fault\n"),
+        Refusal::DiskFault => write_line(out, b"error 7: disk fault\n"),
+        Refusal::NotAJournal { offset } => write_damaged(out, *offset),
+        Refusal::Limit { which, number } => write_above(out, which.as_str().as_bytes(), *number),
+        Refusal::NotBuilt { path } => write_not_built(out, path.as_str().as_bytes()),
     }
 }
 
@@ -33,24 +54,66 @@ fn write_line<K: Sink>(out: &mut K, bytes: &[u8])
     }
 }
 
-// Writes the line of a path that is not built yet as far as the output takes it.
-fn write_not_built<K: Sink>(out: &mut K, path: &[u8])
-    ensures line { K.tells → IsLine (K.held out.old) (K.held out.new) (K.faults out.old) (K.faults out.new) (not_built_text path.now) }
+// Writes two pieces, one behind the other.
+fn write_two<K: Sink>(out: &mut K, first: &[u8], second: &[u8])
+    ensures line { K.tells → IsLine (K.held out.old) (K.held out.new) (K.faults out.old) (K.faults out.new) (first.now ++ second.now) }
     ensures later { K.faults out.old ≤ K.faults out.new }
 {
-    match write_all(out, b"error 15: ") {
-        Ok(()) => write_rest(out, path),
+    match write_all(out, first) {
+        Ok(()) => write_line(out, second),
         Err(_) => {}
     }
 }
 
-// Writes what follows the status on that line.
-fn write_rest<K: Sink>(out: &mut K, path: &[u8])
-    ensures line { K.tells → IsLine (K.held out.old) (K.held out.new) (K.faults out.old) (K.faults out.new) (path.now ++ not_yet) }
+// Writes three pieces, one behind the other.
+fn write_three<K: Sink>(out: &mut K, first: &[u8], second: &[u8], third: &[u8])
+    ensures line { K.tells → IsLine (K.held out.old) (K.held out.new) (K.faults out.old) (K.faults out.new) (first.now ++ (second.now ++ third.now)) }
     ensures later { K.faults out.old ≤ K.faults out.new }
 {
-    match write_all(out, path) {
-        Ok(()) => write_line(out, b" is not built yet\n"),
+    match write_all(out, first) {
+        Ok(()) => write_two(out, second, third),
+        Err(_) => {}
+    }
+}
+
+// Writes the line of a path that is not built yet.
+fn write_not_built<K: Sink>(out: &mut K, path: &[u8])
+    ensures line { K.tells → IsLine (K.held out.old) (K.held out.new) (K.faults out.old) (K.faults out.new) (not_built_text path.now) }
+    ensures later { K.faults out.old ≤ K.faults out.new }
+{
+    write_three(out, b"error 15: ", path, b" is not built yet\n")
+}
+
+// Writes the line of bytes that go wrong at an offset.
+fn write_damaged<K: Sink>(out: &mut K, offset: u64)
+    ensures line { K.tells → IsLine (K.held out.old) (K.held out.new) (K.faults out.old) (K.faults out.new) (damaged_text offset) }
+    ensures later { K.faults out.old ≤ K.faults out.new }
+{
+    let mut buffer = Buffer::new();
+    let digits = buffer.format(offset);
+    write_three(out, b"error 8: not a journal at ", digits.as_bytes(), b"\n")
+}
+
+// Writes the line of a quantity above its limit.
+fn write_above<K: Sink>(out: &mut K, which: &[u8], number: u64)
+    ensures line { K.tells → IsLine (K.held out.old) (K.held out.new) (K.faults out.old) (K.faults out.new) (above_text which.now number) }
+    ensures later { K.faults out.old ≤ K.faults out.new }
+{
+    match write_all(out, b"error 11: more than ") {
+        Ok(()) => write_limit(out, which, number),
+        Err(_) => {}
+    }
+}
+
+// Writes what stands behind the first words of that line.
+fn write_limit<K: Sink>(out: &mut K, which: &[u8], number: u64)
+    ensures line { K.tells → IsLine (K.held out.old) (K.held out.new) (K.faults out.old) (K.faults out.new) (decimal number ++ (codes " " ++ (which.now ++ 10 ∷ []))) }
+    ensures later { K.faults out.old ≤ K.faults out.new }
+{
+    let mut buffer = Buffer::new();
+    let digits = buffer.format(number);
+    match write_all(out, digits.as_bytes()) {
+        Ok(()) => write_three(out, b" ", which, b"\n"),
         Err(_) => {}
     }
 }

@@ -1,5 +1,6 @@
 use crate::{Ended, Outside, renovate};
 use rnv_base::{Bytes, List, MemFile, MemFolder, MemSink, SteadyFolder, SteadySink, Text};
+use rnv_disk::{Content, SteadyDisk};
 use std::alloc::{AllocError, Global};
 use std::test::Fail;
 
@@ -52,15 +53,21 @@ fn files(alloc: Global, files: &[File]) -> Result<List<MemFile>, AllocError> {
     Ok(list)
 }
 
+// A disk that holds nothing.
+fn empty(alloc: Global) -> Result<SteadyDisk, AllocError> {
+    SteadyDisk::new(alloc, Content::new(Vec::new(alloc), Vec::new(alloc)))
+}
+
 // What the words of a line do where nothing fails.
 fn steady(
     alloc: Global,
     line: &str,
     held: &[File],
-) -> Result<Ended<SteadySink, SteadyFolder>, Fail> {
+) -> Result<Ended<SteadySink, SteadyFolder, SteadyDisk>, Fail> {
     let folder = SteadyFolder::new(alloc, files(alloc, held)?)?.ok_or("order")?;
     let out = SteadySink::new(alloc);
-    Ok(renovate(alloc, &words(alloc, line)?, Outside { out, folder }))
+    let disk = empty(alloc)?;
+    Ok(renovate(alloc, &words(alloc, line)?, Outside { out, folder, disk }))
 }
 
 // What the words of a line do where these calls of the output and of the folder fail.
@@ -69,12 +76,13 @@ fn failing(
     line: &str,
     writes: &[u64],
     reads: &[u64],
-) -> Result<Ended<MemSink, MemFolder>, Fail> {
+) -> Result<Ended<MemSink, MemFolder, SteadyDisk>, Fail> {
     let held = files(alloc, &[LEFT_PAD, REACT, TWO])?;
     let reads = List::new(Vec::from_slice(alloc, reads)?);
     let folder = MemFolder::new(alloc, held, reads)?.ok_or("order")?;
     let out = MemSink::new(alloc, List::new(Vec::from_slice(alloc, writes)?));
-    Ok(renovate(alloc, &words(alloc, line)?, Outside { out, folder }))
+    let disk = empty(alloc)?;
+    Ok(renovate(alloc, &words(alloc, line)?, Outside { out, folder, disk }))
 }
 
 // The files, the status, and what is printed.
@@ -209,8 +217,12 @@ fn refuses_other_words(rt: HostRuntime) -> Result<(), Fail> {
         "plan acme/web --now 2024-06-03T10:15:00",
         "plan acme/web --then 2024-06-03T10:15:00Z",
         "plan acme --now 2024-06-03T10:15:00Z",
-        "show acme/web",
-        "show acme/web --now 2024-06-03T10:15:00Z",
+        "show",
+        "show acme",
+        "show acme/web again",
+        "import acme/web --now 2024-06-03T10:15:00Z",
+        "imports acme/web",
+        "run acme/web",
         "plan acme/web --now 2024-06-03T10:15:00Z again",
     ] {
         let ended = steady(rt.alloc(), line, &[LEFT_PAD, REACT, TWO])?;

@@ -1,29 +1,34 @@
-ghost use Rattle.std.specs.Prelude.{◌≡◌, ◌↔◌, ◌⊎◌, ◌≤◌, ℕ, List as Items, IfOk, IfErr, IfSome, IsErrOf};
+ghost use Rattle.std.specs.Prelude.{◌≡◌, ◌↔◌, ◌⊎◌, ◌≤◌, ℕ, List as Items, Result, IfOk, IfErr, IfSome};
 ghost use Rattle.rnv_base.specs.Causes.{Rose, FaultsBy};
-ghost use Rattle.rnv_app.specs.Words.{IsPlan};
-ghost use Rattle.rnv_app.specs.Top.{HasPlan, IsBuilt, IsNamed, IsNotBuilt, IsPrinted, IsPrintedInPart, Tells, Writes};
-ghost use Rattle.rnv_app.specs.End.{line_of, IsLine, IsStatus, IsUnbuiltStatus, IsUnwritten};
 ghost use Rattle.rnv_base.specs.Files.{NamedFile};
+ghost use Rattle.rnv_app.specs.End.{line_of, IsLine, IsStatus, IsTold, IsUnbuiltStatus};
+ghost use Rattle.rnv_app.specs.Top.{refusing, HasPlan, IsAnswered, IsBuilt, IsForImport, IsForShow, IsImportEnd, IsNamed, IsNotBuilt, IsPlanRefusal, IsPrinted, IsPrintedInPart, IsShowEnd, Tells};
+ghost use Rattle.rnv_app.specs.Words.{IsImport, IsPlan, IsShow, IsUsage};
+ghost use Rattle.rnv_app.specs.declared.end.Refusal.{Refusal as Cause};
+ghost use Rattle.rnv_app.specs.declared.end.Refusal.TheVariants.{DiskFault as disk_fault, FolderFault as folder_fault, Memory as no_memory};
 ghost use Rattle.rnv_plan.specs.Unbuilt.{IsPlanned, IsUnbuilt};
 
-use crate::end::code;
+use crate::end::refusal_of;
 use crate::plan_text::plan_text;
-use crate::report::report;
+use crate::report::tell;
 use crate::{Refusal, Words, WordsError};
-use rnv_base::{Folder, List, Sink, Text, write_all};
+use rnv_base::{Folder, List, Sink, Text};
+use rnv_commands::{Answer, CommandError, import_on, show_on};
+use rnv_disk::Disk;
 use rnv_plan::{Item, RunError, plan_folder};
 use std::alloc::Global;
 use std::convert::AsStr;
 
-/// The objects of the outside: where the output goes, and the operator's folder.
+/// The objects of the outside: where the output goes, the operator's folder, and the disk of the store.
 #[derive(Drop)]
-pub struct Outside<K: Sink, O: Folder> {
+pub struct Outside<K: Sink, O: Folder, D: Disk> {
     pub out: K,
     pub folder: O,
+    pub disk: D,
 }
 
-/// The status of the program: 0 all done and printed, 1 out of memory, 2 usage, 5 folder fault, 10
-/// write fault, 15 not built yet.
+/// The status of the program: 0 all done and printed, 1 out of memory, 2 usage, 3 unknown repository,
+/// 5 folder fault, 7 disk fault, 8 not a journal, 10 write fault, 11 above a limit, 15 not built yet.
 #[derive(Clone, Copy, Debug, PartialEq, Eq)]
 pub struct Status {
     pub code: u8,
@@ -31,23 +36,29 @@ pub struct Status {
 
 /// The end of the program, with the objects of the outside as it left them.
 #[derive(Drop)]
-pub struct Ended<K: Sink, O: Folder> {
+pub struct Ended<K: Sink, O: Folder, D: Disk> {
     pub status: Status,
-    pub outside: Outside<K, O>,
+    pub outside: Outside<K, O, D>,
 }
 
-/// Does what the words ask for: `plan REPO --now T` prints the plan of a repository of the operator's
-/// folder, a line `now T`, for each update in item order `PATH PACKAGE OLD -> NEW (KIND) BRANCH`, and
-/// `N updates, M branches`. A refusal other than of the output prints a line `error CODE: TEXT` as far
-/// as the output takes it. The objects of the outside come back in every case.
-pub fn renovate<K: Sink, O: Folder>(
+/// Does what the words ask for.
+///
+/// `plan REPO --now T` prints the plan of a repository of the operator's folder, a line `now T`, for
+/// each update in item order `PATH PACKAGE OLD -> NEW (KIND) BRANCH`, and `N updates, M branches`; it
+/// does not touch the disk. `import REPO` makes the base of a repository of the store its checked-out
+/// files, by one write or none, and prints `imported N files, revision R` and `passed over P`.
+/// `show REPO` prints a repository of the store: its line, one for each branch and each request, and
+/// its page. A refusal other than of the output prints a line `error CODE: TEXT` as far as the output
+/// takes it. The objects of the outside come back in every case.
+pub fn renovate<K: Sink, O: Folder, D: Disk>(
     alloc: Global,
     words: &List<Text>,
-    outside: Outside<K, O>,
-) -> Ended<K, O>
+    outside: Outside<K, O, D>,
+) -> Ended<K, O, D>
     ensures statuses { IsStatus result.status.code }
-    ensures usage { (result.status.code ≡ 2) ↔ ((repo : Items ℕ) (now : ℕ) → ¬ IsPlan words.now repo now) }
+    ensures usage { (result.status.code ≡ 2) ↔ IsUsage words.now }
     ensures folder_fault { result.status.code ≡ 5 → Rose (O.faults outside.folder) (O.faults result.outside.folder) }
+    ensures disk_fault { result.status.code ≡ 7 → Rose (D.faults outside.disk) (D.faults result.outside.disk) }
     ensures write_fault { result.status.code ≡ 10 → Rose (K.faults outside.out) (K.faults result.outside.out) }
 
     // A plan that is not built yet: the reason, and all such reasons but for want of memory or a fault.
@@ -57,71 +68,135 @@ pub fn renovate<K: Sink, O: Folder>(
     // What a plan that is built answers where nothing fails.
     ensures complete { O.tells → IsBuilt words.now (O.files outside.folder) → ¬ Rose (O.faults outside.folder) (O.faults result.outside.folder) → ¬ Rose (K.faults outside.out) (K.faults result.outside.out) → (result.status.code ≡ 0) ⊎ (result.status.code ≡ 1) }
 
-    // What is written: the whole plan, a front part of it, or the refusal's line, whole where the output
-    // took it, and else a front part of it.
-    ensures printed { O.tells → K.tells → result.status.code ≡ 0 → IsPrinted words.now (O.files outside.folder) (K.held outside.out) (K.held result.outside.out) }
-    ensures in_part { O.tells → K.tells → result.status.code ≡ 10 → IsPrintedInPart words.now (O.files outside.folder) (K.held outside.out) (K.held result.outside.out) }
+    // What is written of a plan: the whole text, a front part of it, or the refusal's line, whole where the output
+    // took it, and else a front part of it. The disk is not touched.
+    ensures printed { (repo : Items ℕ) (now : ℕ) → IsPlan words.now repo now → O.tells → K.tells → result.status.code ≡ 0 → IsPrinted words.now (O.files outside.folder) (K.held outside.out) (K.held result.outside.out) }
+    ensures in_part { (repo : Items ℕ) (now : ℕ) → IsPlan words.now repo now → O.tells → K.tells → result.status.code ≡ 10 → IsPrintedInPart words.now (O.files outside.folder) (K.held outside.out) (K.held result.outside.out) }
     ensures named { O.tells → K.tells → result.status.code ≡ 15 → IsNamed words.now (O.files outside.folder) (K.held outside.out) (K.held result.outside.out) (K.faults outside.out) (K.faults result.outside.out) }
     ensures refused { K.tells → IfSome (line_of result.status.code) (IsLine (K.held outside.out) (K.held result.outside.out) (K.faults outside.out) (K.faults result.outside.out)) }
+    ensures plan_alone { (repo : Items ℕ) (now : ℕ) → IsPlan words.now repo now → result.outside.disk ≡ outside.disk }
+
+    // What an import makes of the store, and what is written of it.
+    ensures import { (repo : Items ℕ) → IsImport words.now repo → IsImportEnd (record { folder_tells = O.tells; files = O.files outside.folder; disk_tells = D.tells; file = (D.seen outside.disk).zero; entry = D.past outside.disk; exit = D.past result.outside.disk; same_disk = result.outside.disk ≡ outside.disk })
+        repo K.tells (K.held outside.out) (K.held result.outside.out) (K.faults outside.out) (K.faults result.outside.out) result.status.code }
+
+    // What is shown of the store, and what is written of it.
+    ensures show { (repo : Items ℕ) → IsShow words.now repo → IsShowEnd (record { folder_tells = O.tells; files = O.files outside.folder; disk_tells = D.tells; file = (D.seen outside.disk).zero; entry = D.past outside.disk; exit = D.past result.outside.disk; same_disk = result.outside.disk ≡ outside.disk })
+        repo K.tells (K.held outside.out) (K.held result.outside.out) (K.faults outside.out) (K.faults result.outside.out) result.status.code }
 
     ensures same { O.tells → (O.files result.outside.folder ≡ O.files outside.folder) }
     ensures folder_later { O.faults outside.folder ≤ O.faults result.outside.folder }
+    ensures disk_later { D.faults outside.disk ≤ D.faults result.outside.disk }
     ensures out_later { K.faults outside.out ≤ K.faults result.outside.out }
 {
     let Outside {
         mut out,
         mut folder,
+        disk,
     } = outside;
-    let code = finish(alloc, words, &mut out, &mut folder);
+    let Answered { text, disk } = answer_to(alloc, words, &mut folder, disk);
+    let code = tell(&mut out, &text);
     Ended {
         status: Status { code },
-        outside: Outside { out, folder },
+        outside: Outside { out, folder, disk },
     }
 }
 
-// Does what the words ask for, prints the line of a refusal, and gives the status.
-fn finish<K: Sink, O: Folder>(alloc: Global, words: &List<Text>, out: &mut K, folder: &mut O) -> u8
-    ensures statuses { IsStatus result }
-    ensures usage { (result ≡ 2) ↔ ((repo : Items ℕ) (now : ℕ) → ¬ IsPlan words.now repo now) }
-    ensures folder_fault { result ≡ 5 → Rose (O.faults folder.old) (O.faults folder.new) }
-    ensures write_fault { result ≡ 10 → Rose (K.faults out.old) (K.faults out.new) }
-
-    // A plan that is not built yet: the reason, and all such reasons but for want of memory or a fault.
-    ensures not_built { O.tells → result ≡ 15 → IsNotBuilt words.now (O.files folder.old) }
-    ensures exactly { O.tells → IsNotBuilt words.now (O.files folder.old) → IsUnbuiltStatus result }
-
-    // What a plan that is built answers where nothing fails.
-    ensures complete { O.tells → IsBuilt words.now (O.files folder.old) → ¬ Rose (O.faults folder.old) (O.faults folder.new) → ¬ Rose (K.faults out.old) (K.faults out.new) → (result ≡ 0) ⊎ (result ≡ 1) }
-
-    // What is written: the whole plan, a front part of it, or the refusal's line, whole where the output
-    // took it, and else a front part of it.
-    ensures printed { O.tells → K.tells → result ≡ 0 → IsPrinted words.now (O.files folder.old) (K.held out.old) (K.held out.new) }
-    ensures in_part { O.tells → K.tells → result ≡ 10 → IsPrintedInPart words.now (O.files folder.old) (K.held out.old) (K.held out.new) }
-    ensures named { O.tells → K.tells → result ≡ 15 → IsNamed words.now (O.files folder.old) (K.held out.old) (K.held out.new) (K.faults out.old) (K.faults out.new) }
-    ensures refused { K.tells → IfSome (line_of result) (IsLine (K.held out.old) (K.held out.new) (K.faults out.old) (K.faults out.new)) }
-
-    ensures same { O.tells → (O.files folder.new ≡ O.files folder.old) }
-    ensures folder_later { O.faults folder.old ≤ O.faults folder.new }
-    ensures out_later { K.faults out.old ≤ K.faults out.new }
-{
-    let end = run(alloc, words, out, folder);
-    report(out, &end);
-    code(&end)
+// The text that the words ask for, or why there is none, and the disk as that left it.
+#[derive(Drop)]
+struct Answered<D: Disk> {
+    text: Result<List<u8>, Refusal>,
+    disk: D,
 }
 
-// The text of the plan that the words ask for.
-fn planned<O: Folder>(alloc: Global, words: &List<Text>, folder: &mut O) -> Result<Vec<u8>, Refusal>
-    ensures usage { IsErrOf result Refusal.Usage ↔ ((repo : Items ℕ) (now : ℕ) → ¬ IsPlan words.now repo now) }
-    ensures plan { O.tells → IfOk result (λ text. HasPlan words.now (O.files folder.old) text.items) }
-    ensures told { O.tells → IfErr result (λ refusal. Tells words.now (O.files folder.old) (Err refusal)) }
-    ensures unwritten { IfErr result IsUnwritten }
+// Does what the words ask for, but for printing.
+fn answer_to<O: Folder, D: Disk>(
+    alloc: Global,
+    words: &List<Text>,
+    folder: &mut O,
+    disk: D,
+) -> Answered<D>
+    ensures answered { IsAnswered (record { folder_tells = O.tells; files = O.files folder.old; disk_tells = D.tells; file = (D.seen disk).zero; entry = D.past disk; exit = D.past result.disk; same_disk = result.disk ≡ disk }) words.now result.text }
     ensures same { O.tells → (O.files folder.new ≡ O.files folder.old) }
-    ensures cause { FaultsBy (O.faults folder.old) (O.faults folder.new) result Refusal.FolderFault }
+    ensures folder_cause { FaultsBy (O.faults folder.old) (O.faults folder.new) result.text folder_fault }
+    ensures disk_cause { FaultsBy (D.faults disk) (D.faults result.disk) result.text disk_fault }
 {
     match Words::read(alloc, words) {
-        Ok(Words::Plan { repo, now }) => plan_for(alloc, words, folder, repo.as_str(), now),
-        Err(WordsError::Usage) => Err(Refusal::Usage),
-        Err(WordsError::Memory) => Err(Refusal::Memory),
+        Ok(Words::Plan { repo, now }) => Answered {
+            text: plan_for(alloc, words, folder, repo.as_str(), now),
+            disk,
+        },
+        Ok(Words::Import { repo }) => import_for(alloc, words, folder, disk, &repo),
+        Ok(Words::Show { repo }) => show_for(alloc, words, folder, disk, &repo),
+        Err(error) => Answered {
+            text: Err(not_read(error)),
+            disk,
+        },
+    }
+}
+
+// The refusal of words that ask for nothing.
+fn not_read(error: WordsError) -> Refusal
+    ensures usage { error ≡ WordsError.Usage → result ≡ Refusal.Usage }
+    ensures memory { error ≡ WordsError.Memory → result ≡ Refusal.Memory }
+{
+    match error {
+        WordsError::Usage => Refusal::Usage,
+        WordsError::Memory => Refusal::Memory,
+    }
+}
+
+fn refusing(text: Result<List<u8>, CommandError>) -> Result<List<u8>, Refusal>
+    ensures { result ≡ refusing text }
+{
+    match text {
+        Ok(text) => Ok(text),
+        Err(error) => Err(refusal_of(error)),
+    }
+}
+
+// Does the import that the words ask for.
+fn import_for<O: Folder, D: Disk>(
+    alloc: Global,
+    words: &List<Text>,
+    folder: &mut O,
+    disk: D,
+    repo: &Text,
+) -> Answered<D>
+    requires { IsImport words.now repo.now }
+    ensures answered { IsForImport (record { folder_tells = O.tells; files = O.files folder.old; disk_tells = D.tells; file = (D.seen disk).zero; entry = D.past disk; exit = D.past result.disk; same_disk = result.disk ≡ disk }) words.now result.text }
+    ensures same { O.tells → (O.files folder.new ≡ O.files folder.old) }
+    ensures folder_cause { FaultsBy (O.faults folder.old) (O.faults folder.new) result.text folder_fault }
+    ensures disk_cause { FaultsBy (D.faults disk) (D.faults result.disk) result.text disk_fault }
+{
+    let _ = words;
+    let Answer { text, disk } = import_on(alloc, disk, folder, repo);
+    Answered {
+        text: refusing(text),
+        disk,
+    }
+}
+
+// Shows the repository that the words ask for. The folder is not looked at.
+fn show_for<O: Folder, D: Disk>(
+    alloc: Global,
+    words: &List<Text>,
+    folder: &mut O,
+    disk: D,
+    repo: &Text,
+) -> Answered<D>
+    requires { IsShow words.now repo.now }
+    ensures answered { IsForShow (record { folder_tells = O.tells; files = O.files folder.old; disk_tells = D.tells; file = (D.seen disk).zero; entry = D.past disk; exit = D.past result.disk; same_disk = result.disk ≡ disk }) words.now result.text }
+    ensures same { folder.new ≡ folder.old }
+    ensures folder_cause { FaultsBy (O.faults folder.old) (O.faults folder.new) result.text folder_fault }
+    ensures disk_cause { FaultsBy (D.faults disk) (D.faults result.disk) result.text disk_fault }
+{
+    let _ = words;
+    let _ = folder;
+    let Answer { text, disk } = show_on(alloc, disk, repo);
+    Answered {
+        text: refusing(text),
+        disk,
     }
 }
 
@@ -132,15 +207,13 @@ fn plan_for<O: Folder>(
     folder: &mut O,
     repo: &str,
     now: u64,
-) -> Result<Vec<u8>, Refusal>
+) -> Result<List<u8>, Refusal>
     requires { IsPlan words.now repo.now now }
     ensures asked { IsPlan words.now repo.now now }
-    ensures used { ¬ IsErrOf result Refusal.Usage }
-    ensures plan { O.tells → IfOk result (λ text. HasPlan words.now (O.files folder.old) text.items) }
-    ensures told { O.tells → IfErr result (λ refusal. Tells words.now (O.files folder.old) (Err refusal)) }
-    ensures unwritten { IfErr result IsUnwritten }
+    ensures plain { IfErr result IsPlanRefusal }
+    ensures told { O.tells → Tells words.now (O.files folder.old) result }
     ensures same { O.tells → (O.files folder.new ≡ O.files folder.old) }
-    ensures cause { FaultsBy (O.faults folder.old) (O.faults folder.new) result Refusal.FolderFault }
+    ensures cause { FaultsBy (O.faults folder.old) (O.faults folder.new) result folder_fault }
 {
     match plan_folder(alloc, folder, repo) {
         Ok(items) => text_for(alloc, words, repo, now, &items),
@@ -157,39 +230,15 @@ fn text_for(
     repo: &str,
     now: u64,
     items: &List<Item>,
-) -> Result<Vec<u8>, Refusal>
+) -> Result<List<u8>, Refusal>
     requires { IsPlan words.now repo.now now }
-    ensures plan { (files : Items NamedFile) → IsPlanned repo.now files items.now → ((path : Items ℕ) → ¬ IsUnbuilt repo.now files path) → IfOk result (λ text. HasPlan words.now files text.items) }
-    ensures memory { IfErr result (λ refusal. refusal ≡ Refusal.Memory) }
+    ensures plan { (files : Items NamedFile) → IsPlanned repo.now files items.now → ((path : Items ℕ) → ¬ IsUnbuilt repo.now files path) → IfOk result (HasPlan words.now files) }
+    ensures memory { IfErr result (λ refusal. refusal ≡ no_memory) }
 {
     let _ = words;
     let _ = repo;
     match plan_text(alloc, now, items) {
-        Ok(text) => Ok(text),
+        Ok(text) => Ok(List::new(text)),
         Err(_) => Err(Refusal::Memory),
-    }
-}
-
-// Does what the words ask for, and prints it.
-fn run<K: Sink, O: Folder>(
-    alloc: Global,
-    words: &List<Text>,
-    out: &mut K,
-    folder: &mut O,
-) -> Result<(), Refusal>
-    ensures usage { IsErrOf result Refusal.Usage ↔ ((repo : Items ℕ) (now : ℕ) → ¬ IsPlan words.now repo now) }
-    ensures told { O.tells → Tells words.now (O.files folder.old) result }
-    ensures held { O.tells → K.tells → Writes words.now (O.files folder.old) (K.held out.old) (K.held out.new) result }
-    ensures unheld { K.tells → IfErr result (λ refusal. IsUnwritten refusal → K.held out.new ≡ K.held out.old) }
-    ensures same { O.tells → (O.files folder.new ≡ O.files folder.old) }
-    ensures folder_cause { FaultsBy (O.faults folder.old) (O.faults folder.new) result Refusal.FolderFault }
-    ensures out_cause { FaultsBy (K.faults out.old) (K.faults out.new) result Refusal.WriteFault }
-{
-    match planned(alloc, words, folder) {
-        Ok(text) => match write_all(out, text.as_slice()) {
-            Ok(()) => Ok(()),
-            Err(_) => Err(Refusal::WriteFault),
-        },
-        Err(refusal) => Err(refusal),
     }
 }

@@ -1,5 +1,5 @@
-ghost use Rattle.std.specs.Prelude.{◌≡◌, ◌↔◌, ℕ, List as Items, IfOk, IfSome, IfNone, IsErrOf};
-ghost use Rattle.rnv_app.specs.Words.{IsAsked, IsPlan, AreWords, GivesPlan};
+ghost use Rattle.std.specs.Prelude.{◌≡◌, ◌↔◌, ◌∷◌, [], ℕ, List as Items, IfOk, IfSome, IfNone, IsErrOf};
+ghost use Rattle.rnv_app.specs.Words.{AreWords, IsAsked, IsImport, IsPlan, IsShow, IsUsage};
 ghost use Rattle.rnv_app.specs.declared.words.WordsError.TheVariants.{Usage};
 
 use rnv_base::{List, Share, Text, moment_read, name_ok};
@@ -11,54 +11,112 @@ use std::convert::{AsSlice, AsStr};
 pub enum Words {
     /// To plan a repository of the folder, at a moment in seconds since 1970-01-01T00:00:00Z.
     Plan { repo: Text, now: u64 },
+    /// To make the base of a repository of the store its checked-out files.
+    Import { repo: Text },
+    /// To print a repository of the store.
+    Show { repo: Text },
 }
 
 /// Why words ask for nothing.
 #[derive(Clone, Copy, Debug, PartialEq, Eq)]
 pub enum WordsError {
-    /// They are not of the form that the program takes.
+    /// They are not of a form that the program takes.
     Usage,
     /// Want of memory.
     Memory,
 }
 
 impl Words {
-    /// What the words `plan REPO --now T` ask for, in just this order: REPO is a repository name, and
-    /// T a moment as RFC 3339 writes it in whole seconds of UTC. `Usage` exactly for other words.
+    /// What the words `plan REPO --now T`, `import REPO` or `show REPO` ask for, in just this order: REPO
+    /// is a repository name, and T a moment as RFC 3339 writes it in whole seconds of UTC. `Usage`
+    /// exactly for other words.
     pub fn read(alloc: Global, words: &List<Text>) -> Result<Words, WordsError>
         ensures read { IfOk result (AreWords words.now) }
-        ensures usage { IsErrOf result Usage ↔ ((repo : Items ℕ) (now : ℕ) → ¬ IsPlan words.now repo now) }
+        ensures usage { IsErrOf result Usage ↔ IsUsage words.now }
     {
-        let [command, repo, flag, time] = words.as_slice() else {
-            return Err(WordsError::Usage);
-        };
-        match asked(
-            command.as_str(),
-            repo.as_str(),
-            flag.as_str(),
-            time.as_str(),
-        ) {
-            Some(now) => found(alloc, words, repo, now),
-            None => Err(WordsError::Usage),
+        match words.as_slice() {
+            [command, repo] => two(alloc, words, command, repo),
+            [command, repo, flag, time] => four(alloc, words, command, repo, flag, time),
+            _ => Err(WordsError::Usage),
         }
     }
 }
 
-// What words that ask for this plan give.
-fn found(alloc: Global, words: &List<Text>, repo: &Text, now: u64) -> Result<Words, WordsError>
-    requires { IsPlan words.now repo.now now }
+// What these two words ask for.
+fn two(alloc: Global, words: &List<Text>, command: &Text, repo: &Text) -> Result<Words, WordsError>
+    requires { words.now ≡ command.now ∷ repo.now ∷ [] }
     ensures read { IfOk result (AreWords words.now) }
-    ensures usage { IsErrOf result Usage ↔ ((repo : Items ℕ) (now : ℕ) → ¬ IsPlan words.now repo now) }
+    ensures usage { IsErrOf result Usage ↔ IsUsage words.now }
 {
-    let _ = words;
-    plan(alloc, repo, now)
+    if !name_ok(repo.as_str()) {
+        return Err(WordsError::Usage);
+    }
+    match command.as_str() {
+        "import" => import(alloc, words, repo),
+        "show" => show(alloc, words, repo),
+        _ => Err(WordsError::Usage),
+    }
 }
 
-fn plan(alloc: Global, repo: &Text, now: u64) -> Result<Words, WordsError>
-    ensures { GivesPlan repo.now now result }
+// What these four words ask for.
+fn four(
+    alloc: Global,
+    words: &List<Text>,
+    command: &Text,
+    repo: &Text,
+    flag: &Text,
+    time: &Text,
+) -> Result<Words, WordsError>
+    requires { words.now ≡ command.now ∷ repo.now ∷ flag.now ∷ time.now ∷ [] }
+    ensures read { IfOk result (AreWords words.now) }
+    ensures usage { IsErrOf result Usage ↔ IsUsage words.now }
 {
+    match asked(
+        command.as_str(),
+        repo.as_str(),
+        flag.as_str(),
+        time.as_str(),
+    ) {
+        Some(now) => plan(alloc, words, repo, now),
+        None => Err(WordsError::Usage),
+    }
+}
+
+// What words that ask for this plan give.
+fn plan(alloc: Global, words: &List<Text>, repo: &Text, now: u64) -> Result<Words, WordsError>
+    requires { IsPlan words.now repo.now now }
+    ensures read { IfOk result (AreWords words.now) }
+    ensures usage { IsErrOf result Usage ↔ IsUsage words.now }
+{
+    let _ = words;
     match repo.share(alloc) {
         Ok(repo) => Ok(Words::Plan { repo, now }),
+        Err(_) => Err(WordsError::Memory),
+    }
+}
+
+// What words that ask for this import give.
+fn import(alloc: Global, words: &List<Text>, repo: &Text) -> Result<Words, WordsError>
+    requires { IsImport words.now repo.now }
+    ensures read { IfOk result (AreWords words.now) }
+    ensures usage { IsErrOf result Usage ↔ IsUsage words.now }
+{
+    let _ = words;
+    match repo.share(alloc) {
+        Ok(repo) => Ok(Words::Import { repo }),
+        Err(_) => Err(WordsError::Memory),
+    }
+}
+
+// What words that ask to show this repository give.
+fn show(alloc: Global, words: &List<Text>, repo: &Text) -> Result<Words, WordsError>
+    requires { IsShow words.now repo.now }
+    ensures read { IfOk result (AreWords words.now) }
+    ensures usage { IsErrOf result Usage ↔ IsUsage words.now }
+{
+    let _ = words;
+    match repo.share(alloc) {
+        Ok(repo) => Ok(Words::Show { repo }),
         Err(_) => Err(WordsError::Memory),
     }
 }

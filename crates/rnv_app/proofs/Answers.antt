@@ -1,0 +1,305 @@
+-- What the words of a command tell of its answer.
+use Rattle.std.specs.Result.{IfErr, IfOk}
+use Rattle.std.proofs.Common.{◌≡◌, ◌≢◌, ◌⊎◌, inl, inr, ℕ, List, [], ◌∷◌, ◌++◌, length, get_or, take, Result, Ok, Err, IsErrOf, ◌↔◌, sym, subst, ◌∙◌, ap, refl, arith, codes}
+use Rattle.rnv_base.specs.Causes.{Rose, FaultsBy}
+use Rattle.rnv_base.specs.Files.{NamedFile}
+use Rattle.rnv_base.specs.Moment.{IsMomentText}
+use Rattle.rnv_disk.specs.Stops.{Past}
+use Rattle.rnv_journal.specs.Readings.{KeepsReadings}
+use Rattle.rnv_commands.proofs.Stops.{or_import}
+use Rattle.rnv_plan.specs.declared.item.Item.{Item}
+use Rattle.rnv_plan.specs.Unbuilt.{IsPlanned, IsUnbuilt}
+use Rattle.rnv_commands.specs.declared.error.CommandError.{CommandError}
+use Rattle.rnv_commands.specs.declared.error.CommandError.TheVariants as command
+use Rattle.rnv_app.specs.declared.end.Refusal.{Refusal}
+use Rattle.rnv_app.specs.declared.end.Refusal.TheVariants.{Memory, Usage, UnknownRepo, FolderFault, DiskFault, NotAJournal, Limit, NotBuilt}
+use Rattle.rnv_app.specs.declared.words.Words.{Words}
+use Rattle.rnv_app.specs.declared.words.WordsError.{WordsError}
+use Rattle.rnv_app.specs.declared.words.WordsError.TheVariants.{Usage as words_usage, Memory as words_memory}
+use Rattle.rnv_app.specs.Words.{IsCommand, IsImport, IsPlan, IsShow, IsUsage}
+use Rattle.rnv_app.specs.Text.{plan_text}
+use Rattle.rnv_app.specs.End.{code_of, not_built_text, refusal_of, IsLine, IsTold, IsUnbuiltStatus}
+use Rattle.rnv_app.specs.Top.{refusing, HasPlan, HasNoPlan, Imports, IsAnswered, IsBuilt, IsForImport, IsForNone, IsForPlan, IsForShow, IsImportEnd, IsNamed, IsNotBuilt, IsPlanRefusal, IsPrinted, IsPrintedInPart, IsShowEnd, IsShowing, Sight, Tells}
+use Rattle.rnv_app.proofs.Four.{one-repo}
+use Rattle.rnv_app.proofs.Ends.{Answer, done_at, not_built_at, part_at, usage_at}
+
+pub has_plan : (words : List (List ℕ)) (files : List NamedFile) (text repo : List ℕ) (now : ℕ) (items : List Item) → IsPlan words repo now → IsPlanned repo files items → ((path : List ℕ) → ¬ (IsUnbuilt repo files path)) → (time : List ℕ) × IsMomentText time now × (text ≡ plan_text time items) → HasPlan words files text
+has_plan words files text repo now items asked planned built printed = record {
+  repo = repo;
+  now = now;
+  asked = asked;
+  items = items;
+  planned = planned;
+  built = built;
+  time = printed.0;
+  timed = printed.1;
+  same = printed.2;
+}
+
+-- what all of the words and a plan of them say is one
+no_reason : (words : List (List ℕ)) (files : List NamedFile) (repo : List ℕ) (now : ℕ) → IsPlan words repo now → ((path : List ℕ) → ¬ (IsUnbuilt repo files path)) → (path : List ℕ) → ¬ (HasNoPlan words files path)
+no_reason words files repo now asked built path none =
+    built path (subst (λ (r : List ℕ). IsUnbuilt r files path) (one-repo words none.repo repo none.now now none.asked asked) none.unbuilt)
+
+-- words ask for one thing
+
+not_both : (words : List (List ℕ)) (repo : List ℕ) (now : ℕ) (name other : List ℕ) → IsPlan words repo now → ¬ (IsCommand name words other)
+not_both words repo now name other plan two = absurd (omega (arith, ap length plan.four, ap length two.two))
+
+one_command : (words : List (List ℕ)) (name repo name' repo' : List ℕ) → IsCommand name words repo → IsCommand name' words repo' → (name ≡ name') × (repo ≡ repo')
+one_command words name repo name' repo' a b =
+    let same : name ∷ repo ∷ [] ≡ name' ∷ repo' ∷ [] = sym a.two ∙ b.two in
+    (ap (λ (l : List (List ℕ)). get_or l 0 []) same, ap (λ (l : List (List ℕ)). get_or l 1 []) same)
+
+not_show : (words : List (List ℕ)) (repo repo' : List ℕ) → IsImport words repo → ¬ (IsShow words repo')
+not_show words repo repo' a b = absurd (omega (arith, ap length (one_command words (codes "import") repo (codes "show") repo' a b).0))
+
+-- a command over the store is refused for neither of these
+abbrev IsOwn : Refusal → Type 0
+IsOwn Memory = ⊥
+IsOwn Usage = Unit {0}
+IsOwn UnknownRepo = ⊥
+IsOwn FolderFault = ⊥
+IsOwn DiskFault = ⊥
+IsOwn (NotAJournal offset) = ⊥
+IsOwn (Limit which number) = ⊥
+IsOwn (NotBuilt path) = Unit {0}
+
+not_own : (error : CommandError) → ¬ (IsOwn (refusal_of error))
+not_own command.Memory own = own
+not_own command.UnknownRepo own = own
+not_own command.FolderFault own = own
+not_own command.DiskFault own = own
+not_own (command.NotAJournal offset) own = own
+not_own (command.Limit which number) own = own
+
+abbrev first_refusal : Answer → Refusal → Refusal
+first_refusal (Ok text) other = other
+first_refusal (Err refusal) other = refusal
+
+-- answers that differ
+one_refusal : (answer : Answer) (a b : Refusal) → answer ≡ Err a → answer ≡ Err b → code_of a ≡ code_of b
+one_refusal answer a b x y = ap (λ (r : Answer). code_of (first_refusal r Memory)) (sym x ∙ y)
+
+abbrev count_text : Answer → ℕ
+count_text (Ok text) = 1
+count_text (Err refusal) = 0
+
+own_never : (answer : Result (List ℕ) CommandError) (refusal : Refusal) → IsOwn refusal → ¬ (refusing answer ≡ Err refusal)
+own_never (Ok text) refusal own e = absurd cc
+own_never (Err error) refusal own e = not_own error (subst IsOwn (sym (ap (λ (a : Answer). first_refusal a Memory) e)) own)
+
+module _ (s : Sight) (words : List (List ℕ)) (text : Answer) (answered : IsAnswered s words text) where
+  -- words that ask for a plan have its answer, or memory ran out
+  abbrev IsPlanOrNone : Type 0
+  IsPlanOrNone = IsForPlan s words text ⊎ (s.same_disk × (text ≡ Err Memory))
+
+  plan_or_none : (repo : List ℕ) (now : ℕ) → IsPlan words repo now → IsAnswered s words text → IsPlanOrNone
+  plan_or_none repo now asked (inl p) = inl p
+  plan_or_none repo now asked (inr (inl i)) = absurd (not_both words repo now (codes "import") i.repo asked i.asked)
+  plan_or_none repo now asked (inr (inr (inl i))) = absurd (not_both words repo now (codes "show") i.repo asked i.asked)
+  plan_or_none repo now asked (inr (inr (inr n))) = none_then n.refused
+    where
+      none_then : ((text ≡ Err Usage) × IsUsage words) ⊎ ((text ≡ Err Memory) × ¬ (IsUsage words)) → IsPlanOrNone
+      none_then (inl u) = absurd (u.1.plan repo now asked)
+      none_then (inr m) = inr (n.same, m.0)
+
+  -- the plan that there is, of words with another answer than want of memory
+  plan_of : (repo : List ℕ) (now : ℕ) → IsPlan words repo now → ¬ (text ≡ Err Memory) → IsForPlan s words text
+  plan_of repo now asked ne = the (plan_or_none repo now asked answered)
+    where
+      the : IsPlanOrNone → IsForPlan s words text
+      the (inl p) = p
+      the (inr m) = absurd (ne m.1)
+
+  pub plan_same : (repo : List ℕ) (now : ℕ) → IsPlan words repo now → s.same_disk
+  plan_same repo now asked = the (plan_or_none repo now asked answered)
+    where
+      the : IsPlanOrNone → s.same_disk
+      the (inl p) = p.same
+      the (inr m) = m.0
+
+  usage_then : text ≡ Err Usage → IsAnswered s words text → IsUsage words
+  usage_then e (inl p) = absurd (subst (λ (a : Answer). IfErr a IsPlanRefusal) e p.plain)
+  usage_then e (inr (inl i)) = absurd (own_never i.answer Usage tt (sym i.is ∙ e))
+  usage_then e (inr (inr (inl i))) = absurd (own_never i.answer Usage tt (sym i.is ∙ e))
+  usage_then e (inr (inr (inr n))) = none_then n.refused
+    where
+      none_then : ((text ≡ Err Usage) × IsUsage words) ⊎ ((text ≡ Err Memory) × ¬ (IsUsage words)) → IsUsage words
+      none_then (inl u) = u.1
+      none_then (inr m) = absurd (omega (arith, one_refusal text Usage Memory e m.0))
+
+  usage_text : IsUsage words → IsAnswered s words text → text ≡ Err Usage
+  usage_text u (inl p) = absurd (u.plan p.repo p.now p.asked)
+  usage_text u (inr (inl i)) = absurd (u.import i.repo i.asked)
+  usage_text u (inr (inr (inl i))) = absurd (u.show i.repo i.asked)
+  usage_text u (inr (inr (inr n))) = none_then n.refused
+    where
+      none_then : ((text ≡ Err Usage) × IsUsage words) ⊎ ((text ≡ Err Memory) × ¬ (IsUsage words)) → text ≡ Err Usage
+      none_then (inl k) = k.0
+      none_then (inr m) = absurd (m.1 u)
+
+  not_built_then : (path : List ℕ) → text ≡ Err (NotBuilt path) → s.folder_tells → IsAnswered s words text → HasNoPlan words s.files path
+  not_built_then path e t (inl p) = subst (Tells words s.files) e (p.told t)
+  not_built_then path e t (inr (inl i)) = absurd (own_never i.answer (NotBuilt path) tt (sym i.is ∙ e))
+  not_built_then path e t (inr (inr (inl i))) = absurd (own_never i.answer (NotBuilt path) tt (sym i.is ∙ e))
+  not_built_then path e t (inr (inr (inr n))) = none_then n.refused
+    where
+      none_then : ((text ≡ Err Usage) × IsUsage words) ⊎ ((text ≡ Err Memory) × ¬ (IsUsage words)) → HasNoPlan words s.files path
+      none_then (inl u) = absurd (omega (arith, one_refusal text (NotBuilt path) Usage e u.0))
+      none_then (inr m) = absurd (omega (arith, one_refusal text (NotBuilt path) Memory e m.0))
+
+  module _ (tells : Type 0) (before after : List ℕ) (faults now : ℕ) (code : ℕ) (told : IsTold tells before after faults now text code) where
+    pub usage_is : (code ≡ 2) ↔ IsUsage words
+    usage_is = (
+      λ e. usage_then (usage_at tells before after faults now text code told e) answered,
+      λ u. (subst (λ (a : Answer). IsTold tells before after faults now a code) (usage_text u answered) told).status,
+    )
+
+    pub not_built_is : s.folder_tells → code ≡ 15 → IsNotBuilt words s.files
+    not_built_is t e = let r = not_built_at tells before after faults now text code told e in (r.0, not_built_then r.0 r.1 t answered)
+
+    pub named_is : s.folder_tells → tells → code ≡ 15 → IsNamed words s.files before after faults now
+    named_is t k e = let r = not_built_at tells before after faults now text code told e in record { path = r.0; plan = not_built_then r.0 r.1 t answered; line = r.2 k }
+
+    ok_not_memory : (t : List ℕ) → text ≡ Ok t → ¬ (text ≡ Err Memory)
+    ok_not_memory t e m = absurd (omega (arith, ap count_text (sym e ∙ m)))
+
+    pub printed_is : (repo : List ℕ) (at : ℕ) → IsPlan words repo at → s.folder_tells → tells → code ≡ 0 → IsPrinted words s.files before after
+    printed_is repo at asked t k e =
+        let d = done_at tells before after faults now text code told e in
+        let p = plan_of repo at asked (ok_not_memory d.0 d.1) in
+        record { text = d.0; plan = subst (Tells words s.files) d.1 (p.told t); written = d.2 k }
+
+    pub in_part_is : (repo : List ℕ) (at : ℕ) → IsPlan words repo at → s.folder_tells → tells → code ≡ 10 → IsPrintedInPart words s.files before after
+    in_part_is repo at asked t k e =
+        let d = part_at tells before after faults now text code told e in
+        let p = plan_of repo at asked (ok_not_memory d.0 d.1) in
+        record { text = d.0; plan = subst (Tells words s.files) d.1 (p.told t); count = (d.3 k).0; written = (d.3 k).1 }
+
+    pub exactly_is : s.folder_tells → IsNotBuilt words s.files → IsUnbuiltStatus code
+    exactly_is t none = the text told (plan_or_none none.1.repo none.1.now none.1.asked answered) (λ p. p.told t)
+      where
+        by_code : (n : ℕ) → code ≡ n → IsUnbuiltStatus n → IsUnbuiltStatus code
+        by_code n e h = subst IsUnbuiltStatus (sym e) h
+
+        by_text : (a : Answer) → IsTold tells before after faults now a code → Tells words s.files a → IsUnbuiltStatus code
+        by_text (Ok t') d plan = absurd (no_reason words s.files plan.repo plan.now plan.asked plan.built none.0 none.1)
+        by_text (Err Memory) d plan = by_code 1 d.status refl
+        by_text (Err Usage) d plan = absurd plan
+        by_text (Err UnknownRepo) d plan = absurd plan
+        by_text (Err FolderFault) d plan = by_code 5 d.status refl
+        by_text (Err DiskFault) d plan = absurd plan
+        by_text (Err (NotAJournal offset)) d plan = absurd plan
+        by_text (Err (Limit which number)) d plan = absurd plan
+        by_text (Err (NotBuilt path)) d plan = by_code 15 d.status refl
+
+        the : (a : Answer) → IsTold tells before after faults now text code → IsPlanOrNone → (IsForPlan s words text → Tells words s.files text) → IsUnbuiltStatus code
+        the a d (inl p) tell = by_text text d (tell p)
+        the a d (inr m) tell = by_code 1 (subst (λ (b : Answer). IsTold tells before after faults now b code) m.1 d).status refl
+
+    pub complete_is : (first last : ℕ) → FaultsBy first last text FolderFault → s.folder_tells → IsBuilt words s.files → ¬ (Rose first last) → ¬ (Rose faults now) → (code ≡ 0) ⊎ (code ≡ 1)
+    complete_is first last f t b quiet still = the (plan_or_none b.repo b.now b.asked answered)
+      where
+        by_text : (a : Answer) → IsTold tells before after faults now a code → Tells words s.files a → FaultsBy first last a FolderFault → (code ≡ 0) ⊎ (code ≡ 1)
+        by_text (Ok t') (inl w) plan f' = inl w.status
+        by_text (Ok t') (inr p) plan f' = absurd (still p.rose)
+        by_text (Err Memory) d plan f' = inr d.status
+        by_text (Err Usage) d plan f' = absurd plan
+        by_text (Err UnknownRepo) d plan f' = absurd plan
+        by_text (Err FolderFault) d plan f' = absurd (quiet (f'.failed refl))
+        by_text (Err DiskFault) d plan f' = absurd plan
+        by_text (Err (NotAJournal offset)) d plan f' = absurd plan
+        by_text (Err (Limit which number)) d plan f' = absurd plan
+        by_text (Err (NotBuilt path)) d plan f' = absurd (no_reason words s.files b.repo b.now b.asked b.built path plan)
+
+        the : IsPlanOrNone → (code ≡ 0) ⊎ (code ≡ 1)
+        the (inl p) = by_text text told (p.told t) f
+        the (inr m) = inr (subst (λ (a : Answer). IsTold tells before after faults now a code) m.1 told).status
+
+    told_as : (a : Answer) → text ≡ a → IsTold tells before after faults now a code
+    told_as a e = subst (λ (b : Answer). IsTold tells before after faults now b code) e told
+
+    -- nothing was done
+    imports_none : (repo : List ℕ) → KeepsReadings 268435456 s.entry s.exit → Imports s repo (Err command.Memory)
+    imports_none repo keeps = record {
+      stops = or_import 268435456 s.entry s.exit s.folder_tells s.files repo keeps;
+      unwritten = λ ne. keeps;
+      imported = λ t. tt;
+      refused = λ t. tt;
+    }
+
+    shows_none : (repo : List ℕ) → KeepsReadings 268435456 s.entry s.exit → IsShowing s repo (Err command.Memory)
+    shows_none repo keeps = record { stops = keeps; shown = λ t. tt; refused = λ t. tt }
+
+    pub import_is : (repo : List ℕ) → IsImport words repo → IsImportEnd s repo tells before after faults now code
+    import_is repo asked = the answered
+      where
+        end : (answer : Result (List ℕ) CommandError) → text ≡ refusing answer → Imports s repo answer → IsImportEnd s repo tells before after faults now code
+        end answer e i = record { answer = answer; told = told_as (refusing answer) e; imports = i }
+
+        none_then : KeepsReadings 268435456 s.entry s.exit → ((text ≡ Err Usage) × IsUsage words) ⊎ ((text ≡ Err Memory) × ¬ (IsUsage words)) → IsImportEnd s repo tells before after faults now code
+        none_then keeps (inl u) = absurd (u.1.import repo asked)
+        none_then keeps (inr m) = end (Err command.Memory) m.0 (imports_none repo keeps)
+
+        the : IsAnswered s words text → IsImportEnd s repo tells before after faults now code
+        the (inl p) = absurd (not_both words p.repo p.now (codes "import") repo p.asked asked)
+        the (inr (inl i)) = end i.answer i.is (subst (λ (r : List ℕ). Imports s r i.answer) (one_command words (codes "import") i.repo (codes "import") repo i.asked asked).1 i.imports)
+        the (inr (inr (inl i))) = absurd (not_show words repo i.repo asked i.asked)
+        the (inr (inr (inr n))) = none_then n.keeps n.refused
+
+    pub show_is : (repo : List ℕ) → IsShow words repo → IsShowEnd s repo tells before after faults now code
+    show_is repo asked = the answered
+      where
+        end : (answer : Result (List ℕ) CommandError) → text ≡ refusing answer → IsShowing s repo answer → IsShowEnd s repo tells before after faults now code
+        end answer e i = record { answer = answer; told = told_as (refusing answer) e; showing = i }
+
+        none_then : KeepsReadings 268435456 s.entry s.exit → ((text ≡ Err Usage) × IsUsage words) ⊎ ((text ≡ Err Memory) × ¬ (IsUsage words)) → IsShowEnd s repo tells before after faults now code
+        none_then keeps (inl u) = absurd (u.1.show repo asked)
+        none_then keeps (inr m) = end (Err command.Memory) m.0 (shows_none repo keeps)
+
+        the : IsAnswered s words text → IsShowEnd s repo tells before after faults now code
+        the (inl p) = absurd (not_both words p.repo p.now (codes "show") repo p.asked asked)
+        the (inr (inl i)) = absurd (not_show words i.repo repo i.asked asked)
+        the (inr (inr (inl i))) = end i.answer i.is (subst (λ (r : List ℕ). IsShowing s r i.answer) (one_command words (codes "show") i.repo (codes "show") repo i.asked asked).1 i.showing)
+        the (inr (inr (inr n))) = none_then n.keeps n.refused
+
+-- a refusal of a command over the store, as the program's
+
+pub folder_of : (answer : Result (List ℕ) CommandError) → IsErrOf (refusing answer) FolderFault → IsErrOf answer command.FolderFault
+folder_of (Ok text) is = absurd (cc is)
+folder_of (Err command.Memory) is = absurd (cc is)
+folder_of (Err command.UnknownRepo) is = absurd (cc is)
+folder_of (Err command.FolderFault) is = refl
+folder_of (Err command.DiskFault) is = absurd (cc is)
+folder_of (Err (command.NotAJournal offset)) is = absurd (cc is)
+folder_of (Err (command.Limit which number)) is = absurd (cc is)
+
+pub disk_of : (answer : Result (List ℕ) CommandError) → IsErrOf (refusing answer) DiskFault → IsErrOf answer command.DiskFault
+disk_of (Ok text) is = absurd (cc is)
+disk_of (Err command.Memory) is = absurd (cc is)
+disk_of (Err command.UnknownRepo) is = absurd (cc is)
+disk_of (Err command.FolderFault) is = absurd (cc is)
+disk_of (Err command.DiskFault) is = refl
+disk_of (Err (command.NotAJournal offset)) is = absurd (cc is)
+disk_of (Err (command.Limit which number)) is = absurd (cc is)
+
+-- words that ask for nothing
+
+abbrev pub IsNoText : List (List ℕ) → Answer → Type 0
+IsNoText words text = ((text ≡ Err Usage) × IsUsage words) ⊎ ((text ≡ Err Memory) × ¬ (IsUsage words))
+
+pub none_of : (words : List (List ℕ)) (error : WordsError) (refusal : Refusal) → (error ≡ words_usage → refusal ≡ Usage) → (error ≡ words_memory → refusal ≡ Memory)
+    → IsErrOf {T = Words} (Err error) words_usage ↔ IsUsage words → IsNoText words (Err refusal)
+none_of words words_usage refusal usage memory exactly = inl (ap Err (usage refl), exactly.0 refl)
+none_of words words_memory refusal usage memory exactly = inr (ap Err (memory refl), λ u. absurd (cc (exactly.1 u)))
+
+-- the text of a plan, or want of memory
+
+pub tells_of : (words : List (List ℕ)) (files : List NamedFile) (answer : Answer) → IfOk answer (HasPlan words files) → IfErr answer (λ refusal. refusal ≡ Memory) → Tells words files answer
+tells_of words files (Ok text) plan memory = plan
+tells_of words files (Err refusal) plan memory = subst (λ (r : Refusal). Tells words files (Err r)) (sym memory) tt
+
+pub plain_of : (answer : Answer) → IfErr answer (λ refusal. refusal ≡ Memory) → IfErr answer IsPlanRefusal
+plain_of (Ok text) memory = tt
+plain_of (Err refusal) memory = subst IsPlanRefusal (sym memory) tt

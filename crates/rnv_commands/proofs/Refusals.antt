@@ -1,0 +1,62 @@
+-- The refusals of a command on a disk.
+use Rattle.std.proofs.Common.{ℕ, List, [], Result, Ok, Err, IsErrOf, refl, sym, subst, arith}
+use Rattle.std.specs.Prelude.{IfOk}
+use Rattle.rnv_base.specs.Causes.{FaultsBy}
+use Rattle.rnv_base.specs.Files.{NamedFile}
+use Rattle.rnv_forge.specs.Store.{after}
+use Rattle.rnv_forge.specs.declared.write.Write.{Write}
+use Rattle.rnv_journal.specs.declared.start.StartError.{StartError}
+use Rattle.rnv_journal.specs.declared.start.StartError.TheVariants.{DiskFault as start_fault, NotAJournal as start_damaged, Memory as start_memory}
+use Rattle.rnv_store.specs.Start.{IsStoreRefusal, RefusedBy}
+use Rattle.rnv_commands.specs.Import.{IsImportRefusal}
+use Rattle.rnv_commands.specs.OnDisk.{IsNotImported, IsNotShown, IsStartRefusal, IsStored}
+use Rattle.rnv_commands.specs.Show.{IsShowRefusal}
+use Rattle.rnv_commands.specs.declared.error.CommandError.{CommandError}
+use Rattle.rnv_commands.specs.declared.error.CommandError.TheVariants.{Memory, UnknownRepo, FolderFault, DiskFault, NotAJournal, Limit}
+
+abbrev Answer : Type 0
+Answer = Result (List ℕ) CommandError
+
+pub if_done : {T E : Type 0} (result : Result T E) (P Q : T → Type 0) → ((value : T) → P value → Q value) → IfOk result P → IfOk result Q
+if_done (Ok value) P Q f h = f value h
+if_done (Err error) P Q f h = tt
+
+module _ (tells : Type 0) (files : List NamedFile) (name : List ℕ) (limit : ℕ) (file : List ℕ) where
+  pub not_imported : (old : List Write) → IsStored limit file old → (error : CommandError) → IsImportRefusal tells files name limit old error → IsNotImported tells files name limit file error
+  not_imported old stored Memory r = tt
+  not_imported old stored UnknownRepo r = record { old = old; stored = stored; refused = r }
+  not_imported old stored FolderFault r = record { old = old; stored = stored; refused = r }
+  not_imported old stored DiskFault r = tt
+  not_imported old stored (NotAJournal offset) r = absurd r
+  not_imported old stored (Limit which number) r = record { old = old; stored = stored; refused = r }
+
+  pub not_shown : (writes : List Write) → IsStored limit file writes → (error : CommandError) → IsShowRefusal (after writes []) name error → IsNotShown name limit file error
+  not_shown writes stored Memory r = tt
+  not_shown writes stored UnknownRepo r = record { writes = writes; stored = stored; unknown = r }
+  not_shown writes stored FolderFault r = absurd r
+  not_shown writes stored DiskFault r = absurd r
+  not_shown writes stored (NotAJournal offset) r = absurd r
+  not_shown writes stored (Limit which number) r = absurd r
+
+  pub start_not_imported : (error : StartError) (answer : CommandError) → IsStartRefusal error answer → IsStoreRefusal limit file error → IsNotImported tells files name limit file answer
+  start_not_imported start_fault answer is r = subst (IsNotImported tells files name limit file) (sym is) tt
+  start_not_imported (start_damaged offset) answer is r = subst (IsNotImported tells files name limit file) (sym is) r
+  start_not_imported start_memory answer is r = subst (IsNotImported tells files name limit file) (sym is) tt
+
+  pub start_not_shown : (error : StartError) (answer : CommandError) → IsStartRefusal error answer → IsStoreRefusal limit file error → IsNotShown name limit file answer
+  start_not_shown start_fault answer is r = subst (IsNotShown name limit file) (sym is) tt
+  start_not_shown (start_damaged offset) answer is r = subst (IsNotShown name limit file) (sym is) r
+  start_not_shown start_memory answer is r = subst (IsNotShown name limit file) (sym is) tt
+
+pub start_folder : (error : StartError) (answer : CommandError) → IsStartRefusal error answer → ¬ (IsErrOf {T = List ℕ} (Err answer) FolderFault)
+start_folder start_fault answer is folder = absurd (cc (is, folder))
+start_folder (start_damaged offset) answer is folder = absurd (cc (is, folder))
+start_folder start_memory answer is folder = absurd (cc (is, folder))
+
+pub start_cause : (before now : ℕ) (error : StartError) (answer : CommandError) → IsStartRefusal error answer → RefusedBy before now error → FaultsBy {T = List ℕ} before now (Err answer) DiskFault
+start_cause before now start_fault answer is by = record { later = by.later; failed = λ fault. by.failed refl }
+start_cause before now (start_damaged offset) answer is by = record { later = by.later; failed = λ fault. absurd (cc (is, fault)) }
+start_cause before now start_memory answer is by = record { later = by.later; failed = λ fault. absurd (cc (is, fault)) }
+
+pub folder_still : (count : ℕ) (answer : CommandError) → ¬ (IsErrOf {T = List ℕ} (Err answer) FolderFault) → FaultsBy {T = List ℕ} count count (Err answer) FolderFault
+folder_still count answer never = record { later = omega arith; failed = λ folder. absurd (never folder) }

@@ -1,0 +1,5 @@
+pub mod Difference
+pub mod Import
+pub mod OnDisk
+pub mod Printing
+pub mod Show

@@ -1,0 +1,94 @@
+-- What the commands make of the store on a disk.
+use Rattle.std.specs.Prelude.{◌≡◌, ◌⊎◌, ℕ, List, [], map}
+use Rattle.std.specs.List.{AllByRecursion}
+use Rattle.rnv_base.specs.Files.{NamedFile}
+use Rattle.rnv_disk.specs.Stops.{Past}
+use Rattle.rnv_forge.specs.Spelling.{spelling}
+use Rattle.rnv_forge.specs.Store.{ArePermitted, after}
+use Rattle.rnv_forge.specs.WellFormed.{IsWellFormed}
+use Rattle.rnv_forge.specs.declared.write.Write.{Write}
+use Rattle.rnv_journal.specs.Reading.{ReadsAs}
+use Rattle.rnv_journal.specs.Readings.{IsAtRest, IsReadingNow}
+use Rattle.rnv_journal.specs.declared.start.StartError.{StartError}
+use Rattle.rnv_journal.specs.declared.start.StartError.TheVariants.{DiskFault as start_fault, NotAJournal as start_damaged, Memory as start_memory}
+use Rattle.rnv_store.specs.Start.{IsStoreRefusal}
+use Rattle.rnv_commands.specs.Import.{IsImport, IsImportRefusal, PrintsImport}
+use Rattle.rnv_commands.specs.Show.{IsShowRefusal, Shows}
+use Rattle.rnv_commands.specs.declared.error.CommandError.{CommandError}
+use Rattle.rnv_commands.specs.declared.error.CommandError.TheVariants.{Memory, UnknownRepo, FolderFault, DiskFault, NotAJournal, Limit}
+
+-- the file reads as these writes, which are permitted in their turn
+pub record IsStored (limit : ℕ) (file : List ℕ) (ws : List Write) : Type 0 where
+  pub read : ReadsAs limit file (map spelling ws)
+  pub well_formed : AllByRecursion IsWellFormed ws
+  pub permitted : ArePermitted ws []
+
+-- the bytes go wrong at this offset: they are no journal there, or an entry is no permitted write
+abbrev pub IsDamaged : ℕ → List ℕ → ℕ → Type 0
+IsDamaged limit file offset = IsStoreRefusal limit file (start_damaged offset)
+
+-- what the refusal of a start is answered with
+abbrev pub IsStartRefusal : StartError → CommandError → Type 0
+IsStartRefusal start_fault error = error ≡ DiskFault
+IsStartRefusal (start_damaged offset) error = error ≡ NotAJournal offset
+IsStartRefusal start_memory error = error ≡ Memory
+
+-- a reading that stood on entry, spelling old writes, and behind these the one write of an import
+pub record IsReadingAndImport (tells : Type 0) (files : List NamedFile) (name : List ℕ) (limit : ℕ) (past : Past) (list : List (List ℕ)) : Type 0 where
+  pub old : List Write
+  pub new : List Write
+  pub reading : IsReadingNow limit past (map spelling old)
+  pub import : IsImport tells files name old new
+  pub is : list ≡ map spelling new
+
+-- what a stop of an import leaves: a reading that stood on entry, or such a reading and the one next write
+abbrev pub IsReadingOrImport : Type 0 → List NamedFile → List ℕ → ℕ → Past → List (List ℕ) → Type 0
+IsReadingOrImport tells files name limit past list = IsReadingNow limit past list ⊎ IsReadingAndImport tells files name limit past list
+
+-- an import into the writes that stood, which leaves the disk at rest with the new writes, and what is printed of it
+pub record LeavesImported (tells : Type 0) (files : List NamedFile) (name : List ℕ) (limit : ℕ) (old : List Write) (past : Past) (text : List ℕ) : Type 0 where
+  pub new : List Write
+  pub prints : PrintsImport tells files name old new text
+  pub at_rest : IsAtRest limit past (map spelling new)
+
+-- an import into the store of a file, which leaves the disk at rest with the new writes, and what is printed of it
+pub record HasImported (tells : Type 0) (files : List NamedFile) (name : List ℕ) (limit : ℕ) (file : List ℕ) (past : Past) (text : List ℕ) : Type 0 where
+  pub old : List Write
+  pub stored : IsStored limit file old
+  pub imported : LeavesImported tells files name limit old past text
+
+-- the import into the store of a file is refused
+pub record IsRefusedIn (tells : Type 0) (files : List NamedFile) (name : List ℕ) (limit : ℕ) (file : List ℕ) (error : CommandError) : Type 0 where
+  pub old : List Write
+  pub stored : IsStored limit file old
+  pub refused : IsImportRefusal tells files name limit old error
+
+-- why a file takes no import
+abbrev pub IsNotImported : Type 0 → List NamedFile → List ℕ → ℕ → List ℕ → CommandError → Type 0
+IsNotImported tells files name limit file Memory = Unit {0}
+IsNotImported tells files name limit file UnknownRepo = IsRefusedIn tells files name limit file UnknownRepo
+IsNotImported tells files name limit file FolderFault = IsRefusedIn tells files name limit file FolderFault
+IsNotImported tells files name limit file DiskFault = Unit {0}
+IsNotImported tells files name limit file (NotAJournal offset) = IsDamaged limit file offset
+IsNotImported tells files name limit file (Limit which number) = IsRefusedIn tells files name limit file (Limit which number)
+
+-- the store of a file has the repository, and this is its text
+pub record IsShownOf (name : List ℕ) (limit : ℕ) (file text : List ℕ) : Type 0 where
+  pub writes : List Write
+  pub stored : IsStored limit file writes
+  pub shows : Shows (after writes []) name text
+
+-- the store of a file does not have it
+pub record IsUnknownIn (name : List ℕ) (limit : ℕ) (file : List ℕ) : Type 0 where
+  pub writes : List Write
+  pub stored : IsStored limit file writes
+  pub unknown : IsShowRefusal (after writes []) name UnknownRepo
+
+-- why nothing is shown of a file
+abbrev pub IsNotShown : List ℕ → ℕ → List ℕ → CommandError → Type 0
+IsNotShown name limit file Memory = Unit {0}
+IsNotShown name limit file UnknownRepo = IsUnknownIn name limit file
+IsNotShown name limit file FolderFault = ⊥
+IsNotShown name limit file DiskFault = Unit {0}
+IsNotShown name limit file (NotAJournal offset) = IsDamaged limit file offset
+IsNotShown name limit file (Limit which number) = ⊥
