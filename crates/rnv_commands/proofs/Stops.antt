@@ -4,13 +4,13 @@ use Rattle.std.specs.List.{AllByRecursion}
 use Rattle.rnv_base.specs.Files.{NamedFile}
 use Rattle.rnv_disk.specs.Images.{Image}
 use Rattle.rnv_disk.specs.Stops.{Past, LeftNow}
-use Rattle.rnv_forge.specs.Spelling.{spelling}
 use Rattle.rnv_forge.specs.Store.{ArePermitted}
 use Rattle.rnv_forge.specs.WellFormed.{IsWellFormed}
 use Rattle.rnv_forge.specs.declared.write.Write.{Write}
 use Rattle.rnv_journal.specs.Reading.{EachReading, ReadsAs}
 use Rattle.rnv_journal.specs.Readings.{HasReadingsNow, IsAtRest, IsReadingNow, KeepsReadings, ReadsOnly}
 use Rattle.rnv_journal.proofs.Uses.{reads_first, reads_then, reads_weaker}
+use Rattle.rnv_payload.specs.Spelling.{spelling}
 use Rattle.rnv_store.specs.Forge.{IsOldOrNext, LeavesWrites, SpellSome}
 use Rattle.rnv_store.proofs.Uses.{leaves_then, leaves_weaker, rest_leaves}
 use Rattle.rnv_store.proofs.Writes.{all_front, permitted_front}

@@ -10,8 +10,8 @@ ghost use Rattle.rnv_forge.specs.Named.{IsRisingBy};
 ghost use Rattle.rnv_forge.specs.WellFormed.{AreInOrder};
 ghost use Rattle.rnv_forge.specs.declared.write.Write.TheVariants.{SetBase};
 ghost use Rattle.rnv_forge.specs.Store.{IsPermitted, after};
-ghost use Rattle.rnv_forge.specs.Spelling.{spelling};
 ghost use Rattle.rnv_journal.specs.Readings.{IsAtRest};
+ghost use Rattle.rnv_payload.specs.Spelling.{spelling};
 ghost use Rattle.rnv_store.specs.Forge.{IsOldOrNext, LeavesWrites};
 ghost use Rattle.rnv_store.specs.Writes.{length_of};
 

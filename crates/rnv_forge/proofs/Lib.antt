@@ -1,11 +1,8 @@
-pub mod Formats
 pub mod Live
 pub mod Merges
 pub mod Named
 pub mod Numbers
 pub mod Places
-pub mod Readings
 pub mod Rising
 pub mod Sound
 pub mod Texts
-pub mod WriteFormats

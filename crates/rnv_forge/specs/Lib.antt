@@ -4,8 +4,6 @@ pub mod Files
 pub mod Live
 pub mod Merging
 pub mod Named
-pub mod Reading
 pub mod Requests
-pub mod Spelling
 pub mod Store
 pub mod WellFormed

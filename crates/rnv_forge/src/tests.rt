@@ -3,18 +3,11 @@ ghost use Rattle.rnv_forge.specs.Store.{IsSound};
 
 use crate::{
     ApplyError, Branch, EditedFile, FileChange, Key, Refusal, Repo, Write, apply, is_orderly,
-    read_write, spell,
 };
 use rnv_base::{Bytes, List, Text};
 use std::alloc::{AllocError, Global};
 use std::convert::AsSlice;
 use std::test::Fail;
-
-// The write of dropping branch `renovate/x-1.x` in `a/b`.
-const DROP: [u8; 26] = [
-    3, 0, 0, 0, 3, 97, 47, 98, 0, 0, 0, 14, 114, 101, 110, 111, 118, 97, 116, 101, 47, 120, 45, 49,
-    46, 120,
-];
 
 // A branch with a live request, one without, and a name that no branch has.
 const X: &str = "renovate/x-1.x";
@@ -41,15 +34,12 @@ fn keys(alloc: Global) -> Result<List<Key>, AllocError> {
     Ok(keys)
 }
 
-fn set_base(alloc: Global, path: &str, new: Option<&[u8]>) -> Result<Write, AllocError> {
-    let new = match new {
-        Some(new) => Some(bytes(alloc, new)?),
-        None => None,
-    };
+// Sets `package.json`.
+fn set_base(alloc: Global, new: &[u8]) -> Result<Write, AllocError> {
     let mut changes = List::empty(alloc);
     changes.push(FileChange {
-        path: text(alloc, path)?,
-        bytes: new,
+        path: text(alloc, "package.json")?,
+        bytes: Some(bytes(alloc, new)?),
     })?;
     Ok(Write::SetBase {
         repo: text(alloc, "a/b")?,
@@ -123,43 +113,9 @@ fn finish(alloc: Global) -> Result<Write, AllocError> {
     })
 }
 
-// Each kind of write, in a row in which each is permitted in its turn.
-fn row(alloc: Global) -> Result<Vec<Write>, AllocError> {
-    let mut row = Vec::new(alloc);
-    row.push(set_base(alloc, "package.json", Some(b"{ }"))?)?;
-    row.push(put_branch(alloc, X)?)?;
-    row.push(open(alloc, 1, X)?)?;
-    row.push(edit(alloc, 1)?)?;
-    row.push(autoclose(alloc, 1)?)?;
-    row.push(drop_branch(alloc, X)?)?;
-    row.push(finish(alloc)?)?;
-    row.push(set_base(alloc, "package.json", None)?)?;
-    Ok(row)
-}
-
-#[test]
-fn one_spelling_as_bytes(rt: HostRuntime) -> Result<(), Fail> {
-    let spelled = spell(rt.alloc(), &drop_branch(rt.alloc(), X)?)?;
-    assert_eq!(rt; spelled.as_slice(), DROP.as_slice());
-    Ok(())
-}
-
-#[test]
-fn each_kind_is_read_again(rt: HostRuntime) -> Result<(), Fail> {
-    let row = row(rt.alloc())?;
-    for write in &row {
-        assert!(rt; is_orderly(write));
-        let spelled = spell(rt.alloc(), write)?;
-        let again = read_write(rt.alloc(), spelled.as_slice())?.ok_or("not read")?;
-        let twice = spell(rt.alloc(), &again)?;
-        assert_eq!(rt; twice.as_slice(), spelled.as_slice());
-    }
-    Ok(())
-}
-
 #[test]
 fn begins_with_its_base(rt: HostRuntime) -> Result<(), Fail> {
-    let write = set_base(rt.alloc(), "package.json", Some(b"{ }"))?;
+    let write = set_base(rt.alloc(), b"{ }")?;
     assert!(rt; is_orderly(&write));
     let Ok(repo) = apply(rt.alloc(), None, &write) else {
         return Err("refused")?;
@@ -221,7 +177,7 @@ fn behind(alloc: Global, repo: Repo, write: &Write) -> Result<Repo, Fail>
 fn built(alloc: Global) -> Result<Repo, Fail>
     ensures { IfOk result IsSound }
 {
-    let base = set_base(alloc, "package.json", Some(b"{}"))?;
+    let base = set_base(alloc, b"{}")?;
     let repo = next(alloc, None, &base)?;
     let repo = behind(alloc, repo, &put_branch(alloc, Y)?)?;
     let repo = behind(alloc, repo, &put_branch(alloc, X)?)?;
@@ -246,10 +202,7 @@ fn refusals_in_their_order(rt: HostRuntime) -> Result<(), Fail> {
     let alloc = rt.alloc();
     let is_live = Refusal::HasLiveRequest { number: 1 };
     for (write, wanted) in [
-        (
-            set_base(alloc, "package.json", Some(b"{}"))?,
-            Refusal::NoChange,
-        ),
+        (set_base(alloc, b"{}")?, Refusal::NoChange),
         (drop_branch(alloc, Z)?, Refusal::NoBranch),
         (drop_branch(alloc, X)?, is_live),
         (open(alloc, 1, Z)?, Refusal::NoBranch),

@@ -4,11 +4,11 @@ use Rattle.std.specs.List.{AllByRecursion, cons_option}
 use Rattle.rnv_forge.specs.declared.refusal.Refusal.{Refusal}
 use Rattle.rnv_forge.specs.declared.repo.Repo.{Repo}
 use Rattle.rnv_forge.specs.declared.write.Write.{Write}
-use Rattle.rnv_forge.specs.Reading.{whole_write}
-use Rattle.rnv_forge.specs.Spelling.{spelling}
 use Rattle.rnv_forge.specs.Store.{ArePermitted, IsPermitted, IsSoundStore, after, applied, refusal}
 use Rattle.rnv_forge.specs.WellFormed.{IsWellFormed}
 use Rattle.rnv_forge.proofs.Sound.{sound_store}
+use Rattle.rnv_payload.specs.Reading.{whole_write}
+use Rattle.rnv_payload.specs.Spelling.{spelling}
 use Rattle.rnv_store.specs.Laws.{spelled_both}
 use Rattle.rnv_store.specs.Refused.{IsFirstRefused}
 use Rattle.rnv_store.specs.Writes.{IsSpelledBy, writes_in}

@@ -5,11 +5,11 @@ use Rattle.std.proofs.lemmas.List.{append_cancel_left, map-append, take-append-d
 use Rattle.rnv_base.specs.Buffer.{Buffer}
 use Rattle.rnv_forge.specs.declared.repo.Repo.{Repo}
 use Rattle.rnv_forge.specs.declared.write.Write.{Write}
-use Rattle.rnv_forge.specs.Spelling.{spelling}
 use Rattle.rnv_forge.specs.Store.{ArePermitted, IsPermitted, IsSoundStore, after, applied}
 use Rattle.rnv_forge.specs.WellFormed.{IsOrderly, IsWellFormed}
 use Rattle.rnv_forge.proofs.Sound.{sound_from_nothing}
 use Rattle.rnv_journal.specs.Found.{strings}
+use Rattle.rnv_payload.specs.Spelling.{spelling}
 use Rattle.rnv_store.specs.Laws.{spelled_both}
 use Rattle.rnv_store.specs.Writes.{AreWrites, IsAdded, IsDamaged, IsSpelledBy, SpellsNone, writes_in}
 use Rattle.rnv_store.proofs.Revisions.{revisions_more}

@@ -1,10 +1,10 @@
 -- What a damaged store answers.
 use Rattle.std.proofs.Common.{◌<◌, ℕ, List, ◌∷◌, length, map, Result, Ok, Err, inr, ap, arith, length-append}
 use Rattle.std.specs.Prelude.{IfErr}
-use Rattle.rnv_forge.specs.Spelling.{spelling}
 use Rattle.rnv_journal.specs.Reading.{ReadsAs}
 use Rattle.rnv_journal.specs.declared.start.StartError.{StartError}
 use Rattle.rnv_journal.specs.declared.start.StartError.TheVariants.{DiskFault, NotAJournal, Memory}
+use Rattle.rnv_payload.specs.Spelling.{spelling}
 use Rattle.rnv_store.specs.Start.{IsDamage, IsStoreRefusal}
 use Rattle.rnv_store.specs.Writes.{IsDamaged}
 use Rattle.rnv_store.proofs.Turns.{length_map}

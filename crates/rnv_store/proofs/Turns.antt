@@ -4,14 +4,14 @@ use Rattle.std.specs.List.{AllByRecursion, cons_option}
 use Rattle.std.proofs.lemmas.List.{take-append-drop}
 use Rattle.rnv_disk.specs.Stops.{Past}
 use Rattle.rnv_forge.specs.declared.write.Write.{Write}
-use Rattle.rnv_forge.specs.Reading.{whole_write}
-use Rattle.rnv_forge.specs.Spelling.{spelling}
 use Rattle.rnv_forge.specs.Store.{ArePermitted}
 use Rattle.rnv_forge.specs.WellFormed.{IsWellFormed}
 use Rattle.rnv_journal.specs.File.{counted}
 use Rattle.rnv_journal.specs.Held.{Held, appended}
 use Rattle.rnv_journal.specs.Readings.{IsAtRest, IsOldOrAppended, ReadsOnly}
 use Rattle.rnv_journal.proofs.Uses.{reads_weaker}
+use Rattle.rnv_payload.specs.Reading.{whole_write}
+use Rattle.rnv_payload.specs.Spelling.{spelling}
 use Rattle.rnv_store.specs.Forge.{IsOldOrNext, LeavesWrites, SpellSome}
 use Rattle.rnv_store.specs.Held.{HoldsWrites}
 use Rattle.rnv_store.specs.Laws.{spelled_both}

@@ -3,10 +3,10 @@ use Rattle.std.proofs.Common.{ℕ, List, map, refl}
 use Rattle.std.specs.List.{AllByRecursion}
 use Rattle.rnv_disk.specs.Stops.{Past}
 use Rattle.rnv_forge.specs.declared.write.Write.{Write}
-use Rattle.rnv_forge.specs.Spelling.{spelling}
 use Rattle.rnv_forge.specs.WellFormed.{IsWellFormed}
 use Rattle.rnv_journal.specs.Readings.{IsAtRest}
 use Rattle.rnv_journal.proofs.Uses.{reads_first, reads_then, reads_weaker, rest_reads}
+use Rattle.rnv_payload.specs.Spelling.{spelling}
 use Rattle.rnv_store.specs.Forge.{LeavesWrites, SpellSome}
 
 module _ (limit : ℕ) where

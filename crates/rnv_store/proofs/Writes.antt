@@ -4,9 +4,9 @@ use Rattle.std.specs.List.{AllByRecursion}
 use Rattle.std.proofs.lemmas.List.Elements.{filter_map-append}
 use Rattle.rnv_forge.specs.declared.repo.Repo.{Repo}
 use Rattle.rnv_forge.specs.declared.write.Write.{Write}
-use Rattle.rnv_forge.specs.Reading.{whole_write}
 use Rattle.rnv_forge.specs.Store.{ArePermitted, after, applied}
 use Rattle.rnv_journal.specs.File.{counted}
+use Rattle.rnv_payload.specs.Reading.{whole_write}
 use Rattle.rnv_store.specs.Writes.{writes_in}
 
 pub writes_append : (ps qs : List (List ℕ)) → writes_in (ps ++ qs) ≡ writes_in ps ++ writes_in qs

@@ -4,11 +4,11 @@ use Rattle.std.specs.List.{AllByRecursion}
 use Rattle.std.proofs.lemmas.List.{map-append}
 use Rattle.rnv_disk.specs.Stops.{Past}
 use Rattle.rnv_forge.specs.declared.write.Write.{Write}
-use Rattle.rnv_forge.specs.Spelling.{spelling}
 use Rattle.rnv_forge.specs.WellFormed.{IsWellFormed}
 use Rattle.rnv_journal.specs.File.{counted}
 use Rattle.rnv_journal.specs.Held.{Held}
 use Rattle.rnv_journal.specs.Readings.{IsAtRest}
+use Rattle.rnv_payload.specs.Spelling.{spelling}
 use Rattle.rnv_store.specs.Held.{HoldsWrites}
 use Rattle.rnv_store.specs.Writes.{IsSpelledBy, writes_in, length_of}
 

@@ -3,10 +3,10 @@ use Rattle.std.specs.Prelude.{◌≡◌, ℕ, ◌+◌, List, [], ◌∷◌, ◌+
 use Rattle.std.specs.List.{AllByRecursion, filter_map}
 use Rattle.rnv_forge.specs.declared.repo.Repo.{Repo}
 use Rattle.rnv_forge.specs.declared.write.Write.{Write}
-use Rattle.rnv_forge.specs.Reading.{whole_write}
-use Rattle.rnv_forge.specs.Spelling.{spelling}
 use Rattle.rnv_forge.specs.Store.{ArePermitted, IsPermitted, after, applied}
 use Rattle.rnv_forge.specs.WellFormed.{IsWellFormed}
+use Rattle.rnv_payload.specs.Reading.{whole_write}
+use Rattle.rnv_payload.specs.Spelling.{spelling}
 
 -- the writes that are read of byte strings
 abbrev pub writes_in : List (List ℕ) → List Write

@@ -8,7 +8,7 @@ ghost use Rattle.rnv_journal.specs.Found.{strings};
 ghost use Rattle.rnv_journal.specs.Held.{IsTooLong};
 ghost use Rattle.rnv_journal.specs.Readings.{KeepsReadings};
 ghost use Rattle.rnv_journal.specs.Reading.{ReadsAs};
-ghost use Rattle.rnv_forge.specs.Spelling.{spelling};
+ghost use Rattle.rnv_payload.specs.Spelling.{spelling};
 ghost use Rattle.rnv_store.specs.Start.{IsStoreRefusal, RefusedBy};
 ghost use Rattle.rnv_store.specs.declared.forge.ForgePrepareError.TheVariants.{Full, Refused as PrepareRefused};
 ghost use Rattle.rnv_store.specs.declared.stored.CheckError.TheVariants.{Refused};

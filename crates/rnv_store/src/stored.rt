@@ -1,11 +1,11 @@
 ghost use Rattle.std.specs.Prelude.{◌≡◌, ◌<◌, ◌≤◌, ◌+◌, ℕ, [], length, map, All, IfOk, IsErrOf, OnOk, Some};
 ghost use Rattle.std.specs.List.{AllByRecursion};
 ghost use Rattle.rnv_forge.specs.declared.refusal.Refusal.{Refusal as Cause};
-ghost use Rattle.rnv_forge.specs.Reading.{whole_write};
-ghost use Rattle.rnv_forge.specs.Spelling.{spelling};
 ghost use Rattle.rnv_forge.specs.Store.{ArePermitted, IsSoundStore, after};
 ghost use Rattle.rnv_forge.specs.WellFormed.{IsOrderly, IsWellFormed};
 ghost use Rattle.rnv_journal.specs.Found.{strings};
+ghost use Rattle.rnv_payload.specs.Reading.{whole_write};
+ghost use Rattle.rnv_payload.specs.Spelling.{spelling};
 ghost use Rattle.rnv_store.specs.declared.stored.AddError.TheVariants.{NoWrite};
 ghost use Rattle.rnv_store.specs.declared.stored.CheckError.TheVariants.{Refused};
 ghost use Rattle.rnv_store.specs.declared.stored.StoredError.TheVariants.{Damaged};
@@ -15,7 +15,8 @@ ghost use Rattle.rnv_store.specs.Writes.{AreWrites, IsAdded, IsDamaged, IsSpelle
 use crate::store::Store;
 use crate::texts::has_texts;
 use rnv_base::{Bytes, List, Share, Text};
-use rnv_forge::{ApplyError, Indexed, Refusal, Write, read_write, spell};
+use rnv_forge::{ApplyError, Indexed, Refusal, Write};
+use rnv_payload::{read_write, spell};
 use std::alloc::{AllocError, Global};
 use std::convert::AsSlice;
 

@@ -1,9 +1,9 @@
 use Rattle.std.proofs.Common.{◌≡◌, Option, subst, arith}
 use Rattle.std.specs.Prelude.{IfSome}
 use Rattle.rnv_forge.specs.declared.write.Write.{Write}
-use Rattle.rnv_forge.specs.Spelling.{spelling}
 use Rattle.rnv_forge.specs.WellFormed.{IsWellFormed}
-use Rattle.rnv_forge.proofs.WriteFormats.{whole_again}
+use Rattle.rnv_payload.specs.Spelling.{spelling}
+use Rattle.rnv_payload.proofs.WriteFormats.{whole_again}
 use Rattle.rnv_store.proofs.stored.add.Goals as goal
 
 pub returns-in-Ok-clause-added : goal.returns-in-Ok-clause-added

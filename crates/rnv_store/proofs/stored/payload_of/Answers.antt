@@ -1,5 +1,5 @@
 use Rattle.std.proofs.Common.{List, ℕ, subst}
-use Rattle.rnv_forge.proofs.WriteFormats.{are_bytes, whole_again}
+use Rattle.rnv_payload.proofs.WriteFormats.{are_bytes, whole_again}
 use Rattle.std.specs.Prelude.{All, ◌<◌}
 use Rattle.rnv_store.proofs.stored.payload_of.Goals as goal
 

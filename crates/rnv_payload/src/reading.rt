@@ -1,13 +1,12 @@
 ghost use Rattle.std.specs.Prelude.{◌≡◌, ◌<◌, ℕ, List, Some, All, IfOk, IfSome};
 ghost use Rattle.rnv_forge.specs.declared.write.Write.{Write};
-ghost use Rattle.rnv_forge.specs.Spelling.{spelling};
 ghost use Rattle.rnv_forge.specs.WellFormed.{HasTexts, IsWellFormed};
-ghost use Rattle.rnv_forge.specs.Reading.{Gives, base_at, put_at, drop_at, open_at, edit_at, close_at, finish_at, fields_at, write_at, whole_write};
+ghost use Rattle.rnv_payload.specs.Spelling.{spelling};
+ghost use Rattle.rnv_payload.specs.Reading.{Gives, base_at, put_at, drop_at, open_at, edit_at, close_at, finish_at, fields_at, write_at, whole_write};
 
-use crate::orderly::is_orderly;
 use crate::spelled::{ReadError, Spelled, read_long, read_number};
-use crate::{Branch, FileChange, Key, Write};
 use rnv_base::{List, Text};
+use rnv_forge::{Branch, FileChange, Key, Write, is_orderly};
 use std::alloc::{AllocError, Global};
 
 #[tactic(auto, unfolding(crate::specs::Reading::base_at))]

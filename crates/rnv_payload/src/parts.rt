@@ -1,11 +1,11 @@
 ghost use Rattle.std.specs.Prelude.{◌≡◌, ◌++◌, OnOk};
 ghost use Rattle.rnv_base.specs.Files.{bytes_inside};
-ghost use Rattle.rnv_forge.specs.Spelling.{spelled_bytes, spelled_option, spelled_key, spelled_file, spelled_change, spelled_branch};
-ghost use Rattle.rnv_forge.specs.Reading.{Gives, bytes_at, option_at, key_at, file_at, change_at, branch_at};
+ghost use Rattle.rnv_payload.specs.Spelling.{spelled_bytes, spelled_option, spelled_key, spelled_file, spelled_change, spelled_branch};
+ghost use Rattle.rnv_payload.specs.Reading.{Gives, bytes_at, option_at, key_at, file_at, change_at, branch_at};
 
 use crate::spelled::{ReadError, Spelled, put_bytes, put_number, read_bytes, read_number};
-use crate::{Branch, EditedFile, FileChange, Key};
 use rnv_base::{Bytes, List, Text};
+use rnv_forge::{Branch, EditedFile, FileChange, Key};
 use std::alloc::{AllocError, Global};
 use std::convert::AsSlice;
 

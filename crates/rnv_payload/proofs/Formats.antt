@@ -6,8 +6,8 @@ use Rattle.std.specs.Str.{IsUtf8, is_utf8}
 use Rattle.std.proofs.lemmas.Bool.{ltb-false, le-ltb, eqb-true}
 use Rattle.std.proofs.lemmas.List.{take_at, drop_at, take-append-drop, length-take, get_or-drop}
 use Rattle.std.proofs.lemmas.Str.{IsUtf8-from_is_utf8, is_utf8-from_IsUtf8}
-use Rattle.rnv_forge.specs.Spelling.{four_bytes, eight_bytes, spelled_bytes, spelled_list, spelled_option}
-use Rattle.rnv_forge.specs.Reading.{Reading, ◌>>=◌, both_at, made_at, parts_at, number_in, number_at, long_at, bytes_at, text_at, list_at, option_at}
+use Rattle.rnv_payload.specs.Spelling.{four_bytes, eight_bytes, spelled_bytes, spelled_list, spelled_option}
+use Rattle.rnv_payload.specs.Reading.{Reading, ◌>>=◌, both_at, made_at, parts_at, number_in, number_at, long_at, bytes_at, text_at, list_at, option_at}
 
 abbrev pub IsBytes : List ℕ → Type 0
 IsBytes bytes = (i : ℕ) → get_or bytes i 0 < 256

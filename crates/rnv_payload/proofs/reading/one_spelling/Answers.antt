@@ -1,8 +1,8 @@
 use Rattle.std.proofs.Common.{◌∙◌, refl, sym}
-use Rattle.rnv_forge.specs.Spelling.{spelling}
-use Rattle.rnv_forge.proofs.Formats.{some_is}
-use Rattle.rnv_forge.proofs.WriteFormats.{whole_again, are_bytes}
-use Rattle.rnv_forge.proofs.reading.one_spelling.Goals as goal
+use Rattle.rnv_payload.specs.Spelling.{spelling}
+use Rattle.rnv_payload.proofs.Formats.{some_is}
+use Rattle.rnv_payload.proofs.WriteFormats.{whole_again, are_bytes}
+use Rattle.rnv_payload.proofs.reading.one_spelling.Goals as goal
 
 pub returns : goal.returns
 returns c v w tv tw bytes e =

@@ -1,7 +1,7 @@
 ghost use Rattle.std.specs.Prelude.{◌≡◌, ◌++◌, ℕ, List, Option, OnOk};
-ghost use Rattle.rnv_forge.specs.Spelling.{four_bytes, eight_bytes, spelled_bytes, spelled_list, spelled_option};
-ghost use Rattle.rnv_forge.specs.Reading.{Gives, number_at, long_at, bytes_at, text_at, list_at, parts_at, option_at};
-ghost use Rattle.rnv_forge.specs.declared.spelled.ReadError.TheVariants.{Memory};
+ghost use Rattle.rnv_payload.specs.Spelling.{four_bytes, eight_bytes, spelled_bytes, spelled_list, spelled_option};
+ghost use Rattle.rnv_payload.specs.Reading.{Gives, number_at, long_at, bytes_at, text_at, list_at, parts_at, option_at};
+ghost use Rattle.rnv_payload.specs.declared.spelled.ReadError.TheVariants.{Memory};
 
 use rnv_base::{Bytes, List, Text};
 use std::alloc::{AllocError, AllocFailed, Global};

@@ -3,9 +3,9 @@ use Rattle.std.proofs.Common.{◌≡◌, ℕ, suc, ◌+◌, ◌-◌, ◌<◌, �
 use Rattle.std.specs.Str.{IsUtf8, is_utf8}
 use Rattle.std.proofs.lemmas.List.{append-nil}
 use Rattle.std.proofs.lemmas.Str.{IsUtf8-from_is_utf8, is_utf8-from_IsUtf8}
-use Rattle.rnv_forge.specs.declared.spelled.ReadError.{ReadError}
-use Rattle.rnv_forge.specs.declared.spelled.ReadError.TheVariants.{Memory, NotSpelled}
-use Rattle.rnv_forge.specs.Reading.{Fails, Reading, ◌>>=◌, parts_at, bytes_at, text_at}
+use Rattle.rnv_payload.specs.declared.spelled.ReadError.{ReadError}
+use Rattle.rnv_payload.specs.declared.spelled.ReadError.TheVariants.{Memory, NotSpelled}
+use Rattle.rnv_payload.specs.Reading.{Fails, Reading, ◌>>=◌, parts_at, bytes_at, text_at}
 
 pub text_of : (bytes t rest : List ℕ) → bytes_at bytes ≡ Some (t, rest) → IsUtf8 t → text_at bytes ≡ Some (t, rest)
 unfolding text_at

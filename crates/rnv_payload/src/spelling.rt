@@ -1,9 +1,9 @@
 ghost use Rattle.std.specs.Prelude.{◌≡◌, ◌∷◌, ◌++◌, IfOk, OnOk};
-ghost use Rattle.rnv_forge.specs.Spelling.{spelling, spelled_bytes, spelled_key, spelled_list};
+ghost use Rattle.rnv_payload.specs.Spelling.{spelling, spelled_bytes, spelled_key, spelled_list};
 
 use crate::spelled::{Spelled, put_long, put_number};
-use crate::{Key, Write};
 use rnv_base::{Bytes, List, Text};
+use rnv_forge::{Key, Write};
 use std::alloc::{AllocError, Global};
 
 // The kind of a write, and the name of its repository.

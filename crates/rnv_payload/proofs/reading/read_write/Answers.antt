@@ -1,8 +1,8 @@
 use Rattle.std.proofs.Common.{◌≡◌, ◌∙◌, sym, arith}
 use Rattle.rnv_forge.specs.WellFormed.{IsOrderly}
-use Rattle.rnv_forge.proofs.Formats.{some_is}
-use Rattle.rnv_forge.proofs.WriteFormats.{whole_takes, whole_again}
-use Rattle.rnv_forge.proofs.reading.read_write.Goals as goal
+use Rattle.rnv_payload.proofs.Formats.{some_is}
+use Rattle.rnv_payload.proofs.WriteFormats.{whole_takes, whole_again}
+use Rattle.rnv_payload.proofs.reading.read_write.Goals as goal
 
 pub returns-then-is_orderly-clause-read : goal.returns-then-is_orderly-clause-read
 returns-then-is_orderly-clause-read c =

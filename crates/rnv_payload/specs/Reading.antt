@@ -4,11 +4,11 @@ use Rattle.std.specs.Str.{is_utf8}
 use Rattle.rnv_base.specs.Files.{NamedFile}
 use Rattle.rnv_forge.specs.declared.branch.Branch.{Branch}
 use Rattle.rnv_forge.specs.declared.branch.Key.{Key}
-use Rattle.rnv_forge.specs.declared.spelled.ReadError.{ReadError}
-use Rattle.rnv_forge.specs.declared.spelled.ReadError.TheVariants.{Memory, NotSpelled}
 use Rattle.rnv_forge.specs.declared.write.Write.{Write}
 use Rattle.rnv_forge.specs.declared.write.Write.TheVariants.{SetBase, PutBranch, DropBranch, OpenRequest, EditRequest, Autoclose, Finish}
 use Rattle.rnv_forge.specs.Files.{PathChange}
+use Rattle.rnv_payload.specs.declared.spelled.ReadError.{ReadError}
+use Rattle.rnv_payload.specs.declared.spelled.ReadError.TheVariants.{Memory, NotSpelled}
 
 -- What a function returned is what a reading gives, unless memory ran out.
 abbrev pub Fails : {Y : Type 0} → ReadError → Option Y → Type 0

@@ -1,6 +1,6 @@
-use Rattle.rnv_forge.proofs.Readings.{goes_on}
-use Rattle.rnv_forge.specs.Reading.{parts_at}
-use Rattle.rnv_forge.proofs.spelled.read_parts.Goals as goal
+use Rattle.rnv_payload.proofs.Readings.{goes_on}
+use Rattle.rnv_payload.specs.Reading.{parts_at}
+use Rattle.rnv_payload.proofs.spelled.read_parts.Goals as goal
 
 pub loop-preserved : goal.loop-preserved
 loop-preserved g c =

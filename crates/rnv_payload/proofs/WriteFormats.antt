@@ -11,10 +11,10 @@ use Rattle.rnv_forge.specs.declared.branch.Key.{Key}
 use Rattle.rnv_forge.specs.declared.write.Write.{Write}
 use Rattle.rnv_forge.specs.declared.write.Write.TheVariants.{SetBase, PutBranch, DropBranch, OpenRequest, EditRequest, Autoclose, Finish}
 use Rattle.rnv_forge.specs.Files.{PathChange}
-use Rattle.rnv_forge.specs.Spelling.{four_bytes, eight_bytes, spelled_bytes, spelled_list, spelled_option, spelled_key, spelled_file, spelled_change, spelled_branch, spelling}
 use Rattle.rnv_forge.specs.WellFormed.{HasKeyTexts, HasBranchTexts, HasTexts}
-use Rattle.rnv_forge.specs.Reading.{Reading, both_at, made_at, number_at, long_at, bytes_at, text_at, list_at, option_at, key_at, file_at, change_at, branch_at, base_at, put_at, drop_at, open_at, edit_at, close_at, finish_at, fields_at, write_at, whole_write}
-use Rattle.rnv_forge.proofs.Formats.{IsBytes, IsFormat, behind, bind_some, some_is, kept, both_format, made_format, number_format, long_format, bytes_format, text_format, list_format, option_format}
+use Rattle.rnv_payload.specs.Spelling.{four_bytes, eight_bytes, spelled_bytes, spelled_list, spelled_option, spelled_key, spelled_file, spelled_change, spelled_branch, spelling}
+use Rattle.rnv_payload.specs.Reading.{Reading, both_at, made_at, number_at, long_at, bytes_at, text_at, list_at, option_at, key_at, file_at, change_at, branch_at, base_at, put_at, drop_at, open_at, edit_at, close_at, finish_at, fields_at, write_at, whole_write}
+use Rattle.rnv_payload.proofs.Formats.{IsBytes, IsFormat, behind, bind_some, some_is, kept, both_format, made_format, number_format, long_format, bytes_format, text_format, list_format, option_format}
 
 abbrev Any : {X : Type 0} → X → Type 0
 Any x = Unit {0}
