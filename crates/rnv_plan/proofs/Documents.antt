@@ -1,30 +1,27 @@
 -- What is read of the documents of packages.
-use Rattle.std.proofs.Common.{◌≡◌, ◌<◌, ℕ, zero, suc, length, map, ◌⊎◌, ⊎_elim, inl, inr, List, [], ◌∷◌, ◌++◌, Bool, true, false, cond, Option, Some, None, get_or, Result, Err, arith, refl, sym, ap, subst, ◌∙◌, append_assoc}
+use Rattle.std.proofs.Common.{◌≡◌, ℕ, ◌⊎◌, ⊎_elim, inl, inr, List, [], ◌∷◌, ◌++◌, Bool, true, false, cond, Option, Some, None, get_or, arith, refl, sym, ap, subst, ◌∙◌, append_assoc}
 use Rattle.std.specs.List.{All, Any, Contains}
-use Rattle.std.specs.Result.{IfErr}
 use Rattle.std.specs.List.Sorted.{IsStrictlySortedBy}
 use Rattle.std.specs.BTreeMap.{BTreeMap, get, is_at, Updates}
 use Rattle.std.specs.BTreeSet as set
-use Rattle.std.specs.BTreeSet.{BTreeSet, contains, keys}
-use Rattle.std.specs.Ordering.{nat_cmp, ordering_reverse}
+use Rattle.std.specs.BTreeSet.{BTreeSet, contains, keys, insert_key, IsOrdered}
+use Rattle.std.specs.Ordering.{nat_cmp}
 use Rattle.std.specs.Cmp.Lexicographic.{slice_cmp}
 use Rattle.std.specs.declared.cmp.Ordering.TheVariants.{Less}
 use Rattle.std.proofs.lemmas.Bool.{cases_Bool}
 use Rattle.std.proofs.lemmas.Cmp.{nat_list_cmp_total}
-use Rattle.std.proofs.lemmas.List.Elements.{All-cons, All-push, All-append, All-weaker, All-contains, Contains-append_right}
-use Rattle.std.proofs.lemmas.List.{get_or-map, length-map}
-use Rattle.std.proofs.lemmas.Map.Keys.{sorted_tail}
+use Rattle.std.proofs.lemmas.List.Elements.{All-push, All-weaker, All-contains, Contains-append_left, Contains-append_right, Contains-push}
 use Rattle.std.proofs.lemmas.Map.Lookups.{exact_bytes}
-use Rattle.std.proofs.lemmas.Map.Views.{tells_apart, All-after_first, btree_set_contains_iff}
+use Rattle.std.proofs.lemmas.Map.Views.{tells_apart, btree_set_contains_iff, All-insert_key}
 use Rattle.rnv_base.specs.Files.{NamedFile}
-use Rattle.rnv_manager.specs.Finds.{Find}
 use Rattle.rnv_pick.specs.declared.dep.Dep.{Dep}
 use Rattle.rnv_release.specs.declared.release.Release.{Release}
-use Rattle.rnv_plan.specs.Gather.{dep_of, index_for, is_sound, IsSound}
-use Rattle.rnv_plan.specs.Refusal.{IfNotBuilt}
-use Rattle.rnv_plan.specs.Unbuilt.{IsFirstUnsound, IsFirstUnsoundDep, IsFirstUnsoundName}
+use Rattle.rnv_release.specs.Index.{Index, absent, listed, too_long, bad, too_many}
 use Rattle.rnv_plan.specs.declared.error.RunError.{RunError}
-use Rattle.rnv_plan.specs.declared.error.RunError.TheVariants.{Memory, FolderFault, NotBuilt}
+use Rattle.rnv_plan.specs.Gather.{index_for, is_sound, IsSound}
+use Rattle.rnv_plan.specs.Refusal.{IsFirstUnsound, HasUnsound, IsIndexRefusal}
+use Rattle.rnv_plan.specs.Packages.{AreNames, IsFirstUnsoundName, HasUnsoundName}
+use Rattle.rnv_plan.proofs.Rising.{below_one}
 
 either_true : (b : Bool) → cond b true true ≡ true
 either_true true = refl
@@ -43,53 +40,50 @@ parts_more items so_far rest left item parts step = append_assoc so_far (item �
 pub carried : {A B : Type 0} (P : A → B → Type 0) (a b : A) (x y : B) → a ≡ b → x ≡ y → P a x → P b y
 carried P a b x y e f h = subst (λ z. P b z) f (subst (λ c. P c x) e h)
 
--- a fact of an error, at the result that it is
-pub IfErr-at : {T E : Type 0} (Q : E → Type 0) (r : Result T E) (e : E) → r ≡ Err e → Q e → IfErr r Q
-IfErr-at Q r e is h = subst (λ s. IfErr s Q) (sym is) h
+-- ---- the names of packages
 
-pub IfNotBuilt-both : (P Q R : List ℕ → Type 0) (e : RunError) → ((path : List ℕ) → P path → Q path → R path) → IfNotBuilt P e → IfNotBuilt Q e → IfNotBuilt R e
-IfNotBuilt-both P Q R Memory f p q = tt
-IfNotBuilt-both P Q R FolderFault f p q = tt
-IfNotBuilt-both P Q R (NotBuilt path) f p q = f path p q
+Any-left : (P : Dep → Type 0) (ds es : List Dep) → Any P ds → Any P (ds ++ es)
+Any-left P ds es (k, d, l, is, p) =
+    let there = Contains-append_left ds es d (k, l, is) in
+    (there.0, d, there.1, there.2, p)
 
-pub IfNotBuilt-weaker : (P R : List ℕ → Type 0) (e : RunError) → ((path : List ℕ) → P path → R path) → IfNotBuilt P e → IfNotBuilt R e
-IfNotBuilt-weaker P R e f p = IfNotBuilt-both P P R e (λ path q _. f path q) p p
+Any-last : (P : Dep → Type 0) (ds : List Dep) (d : Dep) → P d → Any P (ds ++ d ∷ [])
+Any-last P ds d p = let there = Contains-push ds d in (there.0, d, there.1, there.2, p)
 
--- ---- the names before one
+-- one dependency more
+pub names_more : (ds : List Dep) (names new : BTreeSet (List ℕ)) (d : Dep) (key : List ℕ) → key ≡ d.«package» → set.Updates (slice_cmp nat_cmp) names new key true → keys new ≡ insert_key (slice_cmp nat_cmp) (keys names) key → IsOrdered (slice_cmp nat_cmp) new → AreNames ds names → AreNames (ds ++ d ∷ []) new
+names_more ds names new d key same added inserted ordered h = record {
+  each = subst (All (λ name. Any (λ e. e.«package» ≡ name) (ds ++ d ∷ []))) (sym inserted)
+      (All-insert_key (slice_cmp nat_cmp) key (λ name. Any (λ e. e.«package» ≡ name) (ds ++ d ∷ [])) (keys names)
+      (All-weaker (λ name. Any (λ e. e.«package» ≡ name) ds) (λ name. Any (λ e. e.«package» ≡ name) (ds ++ d ∷ [])) (λ name some. Any-left (λ e. e.«package» ≡ name) ds (d ∷ []) some) (keys names) h.each)
+      (Any-last (λ e. e.«package» ≡ key) ds d (sym same)));
+  every = All-push (λ e. contains (slice_cmp nat_cmp) new e.«package» ≡ true) ds d
+      (All-weaker (λ e. contains (slice_cmp nat_cmp) names e.«package» ≡ true) (λ e. contains (slice_cmp nat_cmp) new e.«package» ≡ true) (λ e had. contains_more names new key e.«package» added had) ds h.every)
+      (subst (λ q. contains (slice_cmp nat_cmp) new q ≡ true) same added.1);
+  rising = ordered;
+}
 
-not_both : (n name : List ℕ) → slice_cmp nat_cmp n name ≡ Less → slice_cmp nat_cmp name n ≡ Less → ⊥
-not_both n name below above =
-    let e = sym below ∙ (nat_list_cmp_total.antisymm n name ∙ ap ordering_reverse above) in cc
+-- ---- the first that is refused
 
-not_itself : (name : List ℕ) → slice_cmp nat_cmp name name ≡ Less → ⊥
-not_itself name below = not_both name name below below
+pub refusal-unsound : (name : List ℕ) (index : Index) (e : RunError) → IsIndexRefusal name index e → is_sound index ≡ false
+refusal-unsound name absent e cause = absurd cause
+refusal-unsound name (listed releases) e cause = absurd cause
+refusal-unsound name too_long e cause = refl
+refusal-unsound name (bad line) e cause = refl
+refusal-unsound name too_many e cause = refl
 
-after_sorted : (so_far : List (List ℕ)) (name : List ℕ) (left : List (List ℕ)) → IsStrictlySortedBy (slice_cmp nat_cmp) (so_far ++ name ∷ left) → All (λ n. slice_cmp nat_cmp name n ≡ Less) left
-after_sorted [] name left h = All-after_first (slice_cmp nat_cmp) name left h
-after_sorted (x ∷ so_far) name left h = after_sorted so_far name left (sorted_tail (slice_cmp nat_cmp) x (so_far ++ name ∷ left) h)
-
--- what holds of the names so far holds of each below the next
-pub All-before : (P : List ℕ → Type 0) (names so_far rest left : List (List ℕ)) (name : List ℕ) → IsStrictlySortedBy (slice_cmp nat_cmp) names → so_far ++ rest ≡ names → rest ≡ name ∷ left → All P so_far → All (λ n. slice_cmp nat_cmp n name ≡ Less → P n) names
-All-before P names so_far rest left name sorted parts step h =
-    let whole : so_far ++ (name ∷ left) ≡ names = ap (λ r. so_far ++ r) (sym step) ∙ parts in
-    let above = after_sorted so_far name left (subst (IsStrictlySortedBy (slice_cmp nat_cmp)) (sym whole) sorted) in
-    let Q : List ℕ → Type 0 = λ n. slice_cmp nat_cmp n name ≡ Less → P n in
-    subst (All Q) whole
-    (All-append Q so_far (name ∷ left) (All-weaker P Q (λ n held _. held) so_far h)
-    (All-cons Q name left (λ below. absurd (not_itself name below))
-    (All-weaker (λ n. slice_cmp nat_cmp name n ≡ Less) Q (λ n over below. absurd (not_both n name below over)) left above)))
-
-pub Contains-next : (names so_far rest left : List (List ℕ)) (name : List ℕ) → so_far ++ rest ≡ names → rest ≡ name ∷ left → Contains names name
-Contains-next names so_far rest left name parts step =
-    subst (λ ns. Contains ns name) (ap (λ r. so_far ++ r) (sym step) ∙ parts)
-    (Contains-append_right so_far (name ∷ left) name (0, omega arith, refl))
+Contains-next : (so_far left : List (List ℕ)) (name : List ℕ) → Contains (so_far ++ name ∷ left) name
+Contains-next so_far left name = Contains-append_right so_far (name ∷ left) name (0, omega arith, refl)
 
 pub first_refused : (files : List NamedFile) (names so_far rest left : List (List ℕ)) (name : List ℕ) → IsStrictlySortedBy (slice_cmp nat_cmp) names → so_far ++ rest ≡ names → rest ≡ name ∷ left → All (IsSound files) so_far → is_sound (index_for files name) ≡ false → IsFirstUnsoundName files names name
-first_refused files names so_far rest left name sorted parts step sound unsound = record {
-  among = Contains-next names so_far rest left name parts step;
-  unsound = unsound;
-  before = All-before (IsSound files) names so_far rest left name sorted parts step sound;
-}
+first_refused files names so_far rest left name sorted parts step sound unsound =
+    let whole : so_far ++ name ∷ left ≡ names = ap (λ r. so_far ++ r) (sym step) ∙ parts in
+    record {
+      among = subst (λ (ns : List (List ℕ)). Contains ns name) whole (Contains-next so_far left name);
+      unsound = unsound;
+      before = subst (All (λ n. slice_cmp nat_cmp n name ≡ Less → IsSound files n)) whole
+          (below_one (λ n. n) (IsSound files) so_far name left (subst (IsStrictlySortedBy (slice_cmp nat_cmp)) (sym whole) sorted) sound);
+    }
 
 -- ---- the indexes of names
 
@@ -101,9 +95,9 @@ pub record AreRead (Sound : List ℕ → Type 0) (found : List ℕ → Option (L
 
 module _ (Sound : List ℕ → Type 0) (found : List ℕ → Option (List Release)) where
   pub AreRead-absent : (names : List (List ℕ)) (indexes : BTreeMap (List ℕ) (List Release)) (name : List ℕ) → AreRead Sound found names indexes → Sound name → None ≡ found name → AreRead Sound found (names ++ name ∷ []) indexes
-  AreRead-absent names indexes name h sound absent = record {
+  AreRead-absent names indexes name h sound none_there = record {
     sound = All-push Sound names name h.sound sound;
-    releases = All-push (λ n. get (slice_cmp nat_cmp) indexes n ≡ found n) names name h.releases (⊎_elim (λ none. none ∙ absent) (λ told. told) (h.others name));
+    releases = All-push (λ n. get (slice_cmp nat_cmp) indexes n ≡ found n) names name h.releases (⊎_elim (λ none. none ∙ none_there) (λ told. told) (h.others name));
     others = h.others;
   }
 
@@ -127,11 +121,6 @@ module _ (Sound : List ℕ → Type 0) (found : List ℕ → Option (List Releas
 
 -- ---- from the names of packages to dependencies
 
--- the names of the packages of dependencies
-pub record AreNames (deps : List Dep) (names : BTreeSet (List ℕ)) : Type 0 where
-  pub each : All (λ name. Any (λ d. d.«package» ≡ name) deps) (keys names)
-  pub every : All (λ d. contains (slice_cmp nat_cmp) names d.«package» ≡ true) deps
-
 -- what holds of each name holds of each dependency's package
 pub All-packages : (P : List ℕ → Type 0) (deps : List Dep) (names : BTreeSet (List ℕ)) → AreNames deps names → All P (keys names) → All (λ d. P d.«package») deps
 All-packages P deps names h held =
@@ -139,34 +128,12 @@ All-packages P deps names h held =
     (λ d has. All-contains P (keys names) d.«package» held ((btree_set_contains_iff nat_list_cmp_total exact_bytes names d.«package»).0 has))
     deps h.every
 
-pub first-unsound-deps : (files : List NamedFile) (deps : List Dep) (names : BTreeSet (List ℕ)) (name : List ℕ) → AreNames deps names → IsFirstUnsoundName files (keys names) name → IsFirstUnsoundDep files deps name
-first-unsound-deps files deps names name h first = record {
+first-deps : (files : List NamedFile) (deps : List Dep) (names : BTreeSet (List ℕ)) (name : List ℕ) → AreNames deps names → IsFirstUnsoundName files (keys names) name → IsFirstUnsound files deps name
+first-deps files deps names name h first = record {
   among = All-contains (λ n. Any (λ d. d.«package» ≡ n) deps) (keys names) name h.each first.among;
   unsound = first.unsound;
   before = All-packages (λ n. slice_cmp nat_cmp n name ≡ Less → IsSound files n) deps names h first.before;
 }
 
--- ---- from the dependencies to the finds that they are made of
-
-All-unmapped : {X Y : Type 0} (P : Y → Type 0) (f : X → Y) (xs : List X) → All P (map f xs) → All (λ x. P (f x)) xs
-All-unmapped P f xs h k d l =
-    let there : k < length (map f xs) = omega (arith, length-map xs f) in
-    subst P (get_or-map f xs k d (f d) l) (h k (f d) there)
-
-Any-unmapped : {X Y : Type 0} (P : Y → Type 0) (f : X → Y) (xs : List X) → Any P (map f xs) → Any (λ x. P (f x)) xs
-Any-unmapped P f [] (k, y, l, is, p) = absurd (omega arith)
-Any-unmapped P f (x ∷ xs) (zero, y, l, is, p) = (0, x, omega arith, refl, subst P (sym is) p)
-Any-unmapped P f (x ∷ xs) (suc k, y, l, is, p) =
-    let within : k < length (map f xs) = omega arith in
-    let found = Any-unmapped P f xs (k, y, within, is, p) in
-    (suc found.0, found.1, omega (arith, found.2), found.3, found.4)
-
-pub sound-finds : (files : List NamedFile) (finds : List Find) → All (λ d. IsSound files d.«package») (map dep_of finds) → All (λ f. IsSound files f.«package») finds
-sound-finds files finds h = All-unmapped (λ d. IsSound files d.«package») dep_of finds h
-
-pub first-unsound-finds : (files : List NamedFile) (finds : List Find) (name : List ℕ) → IsFirstUnsoundDep files (map dep_of finds) name → IsFirstUnsound files finds name
-first-unsound-finds files finds name h = record {
-  among = Any-unmapped (λ d. d.«package» ≡ name) dep_of finds h.among;
-  unsound = h.unsound;
-  before = All-unmapped (λ d. slice_cmp nat_cmp d.«package» name ≡ Less → IsSound files d.«package») dep_of finds h.before;
-}
+pub unsound-deps : (files : List NamedFile) (deps : List Dep) (names : BTreeSet (List ℕ)) (error : RunError) → AreNames deps names → HasUnsoundName files (keys names) error → HasUnsound files deps error
+unsound-deps files deps names error h refused = record { name = refused.name; first = first-deps files deps names refused.name h refused.first; cause = refused.cause }

@@ -1,47 +1,66 @@
--- Finds as dependencies, one after another, and that a text has one list of finds.
-use Rattle.std.proofs.Common.{◌≡◌, ℕ, ◌+◌, ◌<◌, List, [], ◌∷◌, ◌++◌, true, false, length, take, map, get_or, sym, ◌∙◌, ap, inl, inr, arith}
-use Rattle.std.specs.List.{All}
-use Rattle.std.proofs.lemmas.List.{map_more, map-append, length-map, get_or-map}
-use Rattle.std.proofs.lemmas.List.Elements.{All-push}
+-- The finds of a file as dependencies: one after another, that there are some, and no others.
+use Rattle.std.proofs.Common.{◌≡◌, ℕ, ◌+◌, ◌<◌, List, [], ◌∷◌, ◌++◌, Bool, true, false, Option, Some, None, length, take, map, get_or, refl, sym, ◌∙◌, ap, inl, inr}
+use Rattle.std.specs.Str.{IsUtf8, is_utf8}
+use Rattle.std.proofs.lemmas.Bool.{cases_Bool}
+use Rattle.std.proofs.lemmas.List.{map_more, map-append}
 use Rattle.std.proofs.lemmas.Option.{same_Some}
+use Rattle.std.proofs.lemmas.Str.{IsUtf8-from_is_utf8, is_utf8-from_IsUtf8}
+use Rattle.rnv_base.specs.declared.kinds.ManagerKind.{ManagerKind}
+use Rattle.rnv_base.specs.declared.kinds.ManagerKind.TheVariants.{Cargo, Npm, Dockerfile, Regex}
+use Rattle.rnv_forge.specs.Files.{MarkedFile}
 use Rattle.rnv_manager.specs.declared.found.Found.{Found}
 use Rattle.rnv_manager.specs.Finds.{Find, view, views}
 use Rattle.rnv_manager.specs.Marks.{finds_from}
-use Rattle.rnv_package_json.proofs.Whole.{file-again}
+use Rattle.rnv_package_json.specs.Read.{file}
+use Rattle.rnv_package_json.proofs.Whole.{file-again, file-takes}
 use Rattle.rnv_pick.specs.declared.dep.Dep.{Dep}
-use Rattle.rnv_plan.specs.declared.error.RunError.{RunError}
-use Rattle.rnv_plan.specs.declared.error.RunError.TheVariants.{Memory, FolderFault, NotBuilt}
-use Rattle.rnv_plan.specs.Gather.{AreFinds, dep_of, is_exact}
-use Rattle.rnv_plan.specs.Unbuilt.{AreNotExact}
-use Rattle.rnv_plan.specs.Refusal.{IfNotBuilt}
+use Rattle.rnv_plan.specs.Taken.{AreFinds, AreDeps, dep_of}
 
--- ---- one more find
-
-pub deps-one_more : (found : List Found) (i : ℕ) (d : Found) (deps more : List Dep) (dep : Dep) → i < length found → deps ≡ map dep_of (views (take i found)) → dep ≡ dep_of (view (get_or found i d)) → more ≡ deps ++ dep ∷ [] → more ≡ map dep_of (views (take (i + 1) found))
-deps-one_more found i d deps more dep within so_far here pushed =
-    let longer = ap (map dep_of) (map_more view found i d within) in
-    let parts = map-append dep_of (views (take i found)) (view (get_or found i d) ∷ []) in
+pub deps-one_more : (path : List ℕ) (found : List Found) (i : ℕ) (d : Found) (deps more : List Dep) (dep : Dep) → i < length found → deps ≡ map (dep_of path Npm) (views (take i found)) → dep ≡ dep_of path Npm (view (get_or found i d)) → more ≡ deps ++ dep ∷ [] → more ≡ map (dep_of path Npm) (views (take (i + 1) found))
+deps-one_more path found i d deps more dep within so_far here pushed =
+    let longer = ap (map (dep_of path Npm)) (map_more view found i d within) in
+    let parts = map-append (dep_of path Npm) (views (take i found)) (view (get_or found i d) ∷ []) in
     cc
 
-pub exact-one_more : (found : List Found) (i : ℕ) (d : Found) → i < length found → All (λ f. is_exact f ≡ true) (views (take i found)) → is_exact (view (get_or found i d)) ≡ true → All (λ f. is_exact f ≡ true) (views (take (i + 1) found))
-exact-one_more found i d within so_far here = rw (map_more view found i d within) (All-push (λ f. is_exact f ≡ true) (views (take i found)) (view (get_or found i d)) so_far here)
+-- ---- a file has finds
 
-pub not-exact_here : (found : List Found) (i : ℕ) (d : Found) → i < length found → is_exact (view (get_or found i d)) ≡ false → AreNotExact (views found)
-not-exact_here found i d within here =
-    let long = length-map found view in
-    inl (i, view (get_or found i d), omega arith, get_or-map view found i d (view (get_or found i d)) within, here)
+none-some : {X : Type 0} (o : Option X) (x : X) → o ≡ None → o ≡ Some x → ⊥
+none-some o x none some = cc
 
--- ---- why a file is not built
+true-false : (b : Bool) → b ≡ true → b ≡ false → ⊥
+true-false b is_so not_so = cc
 
-pub refused-further : (P Q : List ℕ → Type 0) (e : RunError) → ((path : List ℕ) → P path → Q path) → IfNotBuilt P e → IfNotBuilt Q e
-refused-further P Q Memory further refused = tt
-refused-further P Q FolderFault further refused = tt
-refused-further P Q (NotBuilt path) further refused = further path refused
+read-finds : (text : List ℕ) → IsUtf8 text → (read : Option (List Find)) → file text ≡ read → (finds : List Find) × AreFinds Npm text finds
+read-finds text utf8 None none = ([], inr (record { unread = λ u ms is_read. none-some (file text) (finds_from 0 ms) none (file-again text ms is_read); same = refl }))
+read-finds text utf8 (Some finds) some =
+    let taken = file-takes text finds some in
+    (finds, inl (record { utf8 = utf8; marks = taken.0; read = taken.1; same = taken.2 }))
 
--- ---- a text has one list of finds
+some-npm : (bytes : List ℕ) → (finds : List Find) × AreFinds Npm bytes finds
+some-npm bytes = elim (cases_Bool (is_utf8 bytes)) [
+  | inl is_so ↦ read-finds bytes (IsUtf8-from_is_utf8 bytes is_so) (file bytes) refl
+  | inr not_so ↦ ([], inr (record { unread = λ u ms is_read. true-false (is_utf8 bytes) (is_utf8-from_IsUtf8 bytes u) not_so; same = refl }))
+]
 
-pub finds-same : (text : List ℕ) (fs gs : List Find) → AreFinds text fs → AreFinds text gs → fs ≡ gs
-finds-same text fs gs (inl a) (inl b) = a.same ∙ (same_Some (finds_from 0 a.marks) (finds_from 0 b.marks) (sym (file-again text a.marks a.read) ∙ file-again text b.marks b.read) ∙ sym b.same)
-finds-same text fs gs (inl a) (inr b) = absurd (b.unread a.marks a.read)
-finds-same text fs gs (inr a) (inl b) = absurd (a.unread b.marks b.read)
-finds-same text fs gs (inr a) (inr b) = a.same ∙ sym b.same
+pub some-finds : (m : ManagerKind) (bytes : List ℕ) → (finds : List Find) × AreFinds m bytes finds
+some-finds Cargo bytes = ([], refl)
+some-finds Npm bytes = some-npm bytes
+some-finds Dockerfile bytes = ([], refl)
+some-finds Regex bytes = ([], refl)
+
+-- ---- and no others
+
+npm-one : (bytes : List ℕ) (fs gs : List Find) → AreFinds Npm bytes fs → AreFinds Npm bytes gs → fs ≡ gs
+npm-one bytes fs gs (inl a) (inl b) = a.same ∙ (same_Some (finds_from 0 a.marks) (finds_from 0 b.marks) (sym (file-again bytes a.marks a.read) ∙ file-again bytes b.marks b.read) ∙ sym b.same)
+npm-one bytes fs gs (inl a) (inr b) = absurd (b.unread a.utf8 a.marks a.read)
+npm-one bytes fs gs (inr a) (inl b) = absurd (a.unread b.utf8 b.marks b.read)
+npm-one bytes fs gs (inr a) (inr b) = a.same ∙ sym b.same
+
+finds-one : (m : ManagerKind) (bytes : List ℕ) (fs gs : List Find) → AreFinds m bytes fs → AreFinds m bytes gs → fs ≡ gs
+finds-one Cargo bytes fs gs a b = a ∙ sym b
+finds-one Npm bytes fs gs a b = npm-one bytes fs gs a b
+finds-one Dockerfile bytes fs gs a b = a ∙ sym b
+finds-one Regex bytes fs gs a b = a ∙ sym b
+
+pub deps-one : (m : ManagerKind) (f : MarkedFile) (ds es : List Dep) → AreDeps m f ds → AreDeps m f es → ds ≡ es
+deps-one m f ds es a b = a.same ∙ (ap (map (dep_of f.path m)) (finds-one m f.bytes a.finds b.finds a.read b.read) ∙ sym b.same)

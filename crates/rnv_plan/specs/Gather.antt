@@ -1,65 +1,34 @@
--- What an operator's folder gives for a repository of one `package.json`.
-use Rattle.std.specs.Prelude.{◌≡◌, ◌≤◌, ◌⊎◌, ℕ, List, [], ◌∷◌, ◌++◌, length, map, codes, Bool, true, false, Option, Some, None, is_some}
-use Rattle.std.specs.List.{All}
-use Rattle.std.specs.Str.{IsUtf8}
-use Rattle.rnv_base.specs.Files.{NamedFile, read_of, listed_of}
-use Rattle.rnv_base.specs.declared.kinds.ManagerKind.TheVariants.{Npm}
-use Rattle.rnv_manager.specs.Finds.{Find}
-use Rattle.rnv_manager.specs.Marks.{Mark, finds_from}
-use Rattle.rnv_package_json.specs.Grammar.{IsRead}
-use Rattle.rnv_npm.specs.Exact.{exact_of}
+-- What is gathered of a base: the dependencies of its files, each with its updates.
+use Rattle.std.specs.Prelude.{◌≡◌, ◌≤◌, ℕ, List, length, map, Bool, true, false, Option, Some, None}
+use Rattle.std.specs.List.{All, AllZip, Contains, flat_map}
+use Rattle.rnv_base.specs.Files.{NamedFile}
+use Rattle.rnv_forge.specs.Files.{MarkedFile}
+use Rattle.rnv_forge.specs.Named.{IsRisingBy}
 use Rattle.rnv_release.specs.declared.release.Release.{Release}
 use Rattle.rnv_release.specs.Npm.{npm_path, npm_reading}
 use Rattle.rnv_release.specs.Index.{Index, absent, listed, too_long, bad, too_many, index_of}
 use Rattle.rnv_pick.specs.declared.dep.Dep.{Dep}
 use Rattle.rnv_pick.specs.declared.update.Update.{Update}
 use Rattle.rnv_pick.specs.Updates.{AreUpdates}
+use Rattle.rnv_plan.specs.declared.inputs.PickedDep.{PickedDep}
+use Rattle.rnv_plan.specs.declared.inputs.PickedFile.{PickedFile}
+use Rattle.rnv_plan.specs.declared.taken.TakenFile.{TakenFile}
+use Rattle.rnv_plan.specs.Taken.{AreDeps, AreTaken, deps_in, is_configured, is_built}
 
--- ---- the file
+-- ---- the base
 
-abbrev pub folder_of : List ℕ → List ℕ
-folder_of repo = codes "repos/" ++ (repo ++ codes "/")
+-- the files that managers take, with at most 20,000 dependencies together
+pub record AreFew (base : List MarkedFile) (taken : List TakenFile) : Type 0 where
+  pub read : AreTaken base taken
+  pub few : length (deps_in taken) ≤ 20000
 
-abbrev pub file_name : List ℕ
-file_name = codes "package.json"
+-- nothing of the base is not built yet
+pub record AreBuilt (base : List MarkedFile) (taken : List TakenFile) : Type 0 where
+  pub few : AreFew base taken
+  pub plain : is_configured base ≡ false
+  pub built : All (λ t. is_built t ≡ true) taken
 
-abbrev pub file_of : List ℕ → List ℕ
-file_of repo = folder_of repo ++ file_name
-
--- the repository's one file is a `package.json` of at most 1,048,576 bytes of UTF-8
-pub record IsOnlyFile (repo : List ℕ) (files : List NamedFile) (text : List ℕ) : Type 0 where
-  pub alone : listed_of (folder_of repo) files ≡ file_of repo ∷ []
-  pub there : read_of (file_of repo) files ≡ Some text
-  pub short : length text ≤ 1048576
-  pub utf8 : IsUtf8 text
-
--- ---- its dependencies
-
-pub record IsReadAs (text : List ℕ) (finds : List Find) : Type 0 where
-  pub marks : List Mark
-  pub read : IsRead text marks
-  pub same : finds ≡ finds_from 0 marks
-
-pub record IsUnread (text : List ℕ) (finds : List Find) : Type 0 where
-  pub unread : (marks : List Mark) → ¬ (IsRead text marks)
-  pub same : finds ≡ []
-
--- the finds of a `package.json`; a file outside the grammar has none
-abbrev pub AreFinds : List ℕ → List Find → Type 0
-AreFinds text finds = IsReadAs text finds ⊎ IsUnread text finds
-
-abbrev pub dep_of : Find → Dep
-dep_of f = record { file = file_name; manager = Npm; source = f.source; place = f.place; name = f.name; «package» = f.«package»; value = f.value; start = f.start }
-
-abbrev pub is_exact : Find → Bool
-is_exact f = is_some (exact_of f.value)
-
--- at most 20,000 dependencies, each with an exact value
-pub record AreExact (finds : List Find) : Type 0 where
-  pub few : length finds ≤ 20000
-  pub exact : All (λ f. is_exact f ≡ true) finds
-
--- ---- the documents of their packages
+-- ---- the documents of packages
 
 -- what the index has for a package
 abbrev pub index_for : List NamedFile → List ℕ → Index
@@ -86,23 +55,53 @@ releases_for files name = releases_in (index_for files name)
 abbrev pub IsSound : List NamedFile → List ℕ → Type 0
 IsSound files name = is_sound (index_for files name) ≡ true
 
--- ---- their updates
+-- ---- the updates
 
--- the updates of each dependency in turn, from the releases of its package
-abbrev pub ArePicked : (List ℕ → Option (List Release)) → List Dep → List Update → Type 0
-ArePicked releases [] updates = updates ≡ []
-ArePicked releases (d ∷ ds) updates = (here : List Update) × (rest : List Update) × AreUpdates d (releases d.«package») here × ArePicked releases ds rest × (updates ≡ here ++ rest)
+-- a dependency with its updates, from the releases of its package
+pub record IsPickedDep (releases : List ℕ → Option (List Release)) (d : Dep) (p : PickedDep) : Type 0 where
+  pub dep : p.dep ≡ d
+  pub updates : AreUpdates d (releases d.«package») p.picked.updates
 
--- the updates that a file of this text gives
-pub record IsGatheredFrom (files : List NamedFile) (text : List ℕ) (updates : List Update) : Type 0 where
-  pub finds : List Find
-  pub read : AreFinds text finds
-  pub exact : AreExact finds
-  pub sound : All (λ f. IsSound files f.«package») finds
-  pub picked : ArePicked (releases_for files) (map dep_of finds) updates
+-- a file with its dependencies in turn
+pub record IsPickedFile (releases : List ℕ → Option (List Release)) (t : TakenFile) (p : PickedFile) : Type 0 where
+  pub path : p.path ≡ t.path
+  pub manager : p.manager ≡ t.manager
+  pub deps : AllZip (IsPickedDep releases) t.deps p.deps
 
--- the updates that the folder gives for the repository
-pub record IsGathered (repo : List ℕ) (files : List NamedFile) (updates : List Update) : Type 0 where
-  pub text : List ℕ
-  pub only : IsOnlyFile repo files text
-  pub from : IsGatheredFrom files text updates
+abbrev pub ArePicked : (List ℕ → Option (List Release)) → List TakenFile → List PickedFile → Type 0
+ArePicked releases taken picked = AllZip (IsPickedFile releases) taken picked
+
+-- what is gathered of a base, from the documents of a folder's files
+pub record IsGathered (files : List NamedFile) (base : List MarkedFile) (picked : List PickedFile) : Type 0 where
+  pub taken : List TakenFile
+  pub built : AreBuilt base taken
+  pub sound : All (λ d. IsSound files d.«package») (deps_in taken)
+  pub each : ArePicked (releases_for files) taken picked
+
+-- the same from some releases, as a folder has it that tells nothing
+pub record IsPickedFrom (base : List MarkedFile) (picked : List PickedFile) : Type 0 where
+  pub taken : List TakenFile
+  pub built : AreBuilt base taken
+  pub releases : List ℕ → Option (List Release)
+  pub each : ArePicked releases taken picked
+
+-- a file of the base, whose finds in turn are the dependencies, and each update is of the dependency
+-- with which it stands
+pub record IsPickedOf (base : List MarkedFile) (p : PickedFile) : Type 0 where
+  pub file : MarkedFile
+  pub there : Contains base file
+  pub path : p.path ≡ file.path
+  pub deps : AreDeps p.manager file (map (λ d. d.dep) p.deps)
+  pub own : All (λ d. All (λ u. u.dep ≡ d.dep) d.picked.updates) p.deps
+
+-- the picked files stand by path, each once
+pub record AreFit (base : List MarkedFile) (picked : List PickedFile) : Type 0 where
+  pub rising : IsRisingBy (λ p. p.path) picked
+  pub each : All (IsPickedOf base) picked
+
+-- all updates: by file, then by dependency, then by version
+abbrev pub updates_of : PickedFile → List Update
+updates_of p = flat_map (λ d. d.picked.updates) p.deps
+
+abbrev pub updates_in : List PickedFile → List Update
+updates_in picked = flat_map updates_of picked

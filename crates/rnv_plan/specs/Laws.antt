@@ -1,9 +1,20 @@
--- What the definitions of items amount to.
-use Rattle.std.specs.Prelude.{◌≡◌, List}
+-- What the definitions of items and refusals amount to.
+use Rattle.std.specs.Prelude.{◌≡◌, ℕ, List}
+use Rattle.rnv_base.specs.Files.{NamedFile}
 use Rattle.rnv_pick.specs.declared.update.Update.{Update}
+use Rattle.rnv_plan.specs.declared.error.RunError.{RunError}
 use Rattle.rnv_plan.specs.declared.item.Item.{Item}
 use Rattle.rnv_plan.specs.Items.{AreItems}
+use Rattle.rnv_plan.specs.Plan.{IsPlanned, IsPlanRefusal}
 
 -- a list of updates has one list of items at most
 abbrev pub ItemsAreUnique : Type 0
 ItemsAreUnique = (updates : List Update) (xs ys : List Item) → AreItems updates xs → AreItems updates ys → xs ≡ ys
+
+-- a repository of a folder has one refusal at most, and none where it has a plan
+pub record HasOneAnswer (repo : List ℕ) (files : List NamedFile) : Type 0 where
+  pub one : (e f : RunError) → IsPlanRefusal repo files e → IsPlanRefusal repo files f → e ≡ f
+  pub none : (items : List Item) (e : RunError) → IsPlanned repo files items → ¬ (IsPlanRefusal repo files e)
+
+abbrev pub RefusalsAreOne : Type 0
+RefusalsAreOne = (repo : List ℕ) (files : List NamedFile) → HasOneAnswer repo files

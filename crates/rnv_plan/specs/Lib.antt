@@ -1,7 +1,10 @@
 pub mod Branch
 pub mod Items
 pub mod Groups
-pub mod Laws
+pub mod Managers
+pub mod Taken
 pub mod Gather
-pub mod Unbuilt
 pub mod Refusal
+pub mod Packages
+pub mod Plan
+pub mod Laws

@@ -1,10 +1,64 @@
--- Why a run or a plan ended early.
-use Rattle.std.specs.Prelude.{ℕ, List}
+-- Why a base is not gathered.
+use Rattle.std.specs.Prelude.{◌≡◌, ◌<◌, ℕ, List, length, codes, true, false}
+use Rattle.std.specs.List.{All, Any}
+use Rattle.std.specs.Ordering.{nat_cmp}
+use Rattle.std.specs.Cmp.Lexicographic.{slice_cmp}
+use Rattle.std.specs.declared.cmp.Ordering.TheVariants.{Less}
+use Rattle.rnv_base.specs.Files.{NamedFile}
+use Rattle.rnv_forge.specs.Files.{MarkedFile}
+use Rattle.rnv_release.specs.Npm.{npm_path}
+use Rattle.rnv_release.specs.Index.{Index, absent, listed, too_long, bad, too_many}
+use Rattle.rnv_pick.specs.declared.dep.Dep.{Dep}
 use Rattle.rnv_plan.specs.declared.error.RunError.{RunError}
-use Rattle.rnv_plan.specs.declared.error.RunError.TheVariants.{Memory, FolderFault, NotBuilt}
+use Rattle.rnv_plan.specs.declared.error.RunError.TheVariants.{Memory, FolderFault, UnknownRepo, NotBuilt, Limit, IndexRefused}
+use Rattle.rnv_plan.specs.declared.taken.TakenFile.{TakenFile}
+use Rattle.rnv_plan.specs.Taken.{AreTaken, deps_in, is_configured, is_built}
+use Rattle.rnv_plan.specs.Gather.{AreFew, AreBuilt, index_for, is_sound, IsSound}
 
--- a fact of the path, where the error names one
-abbrev pub IfNotBuilt : (List ℕ → Type 0) → RunError → Type 0
-IfNotBuilt P Memory = Unit {0}
-IfNotBuilt P FolderFault = Unit {0}
-IfNotBuilt P (NotBuilt path) = P path
+-- a fact of the error, but for want of memory and a fault of the folder
+abbrev pub IfTold : (RunError → Type 0) → RunError → Type 0
+IfTold P Memory = Unit {0}
+IfTold P FolderFault = Unit {0}
+IfTold P UnknownRepo = P UnknownRepo
+IfTold P (NotBuilt path) = P (NotBuilt path)
+IfTold P (Limit which number) = P (Limit which number)
+IfTold P (IndexRefused file line) = P (IndexRefused file line)
+
+-- its files have more than 20,000 dependencies together
+pub record HaveMany (base : List MarkedFile) : Type 0 where
+  pub taken : List TakenFile
+  pub read : AreTaken base taken
+  pub many : 20000 < length (deps_in taken)
+
+-- the first path by its bytes whose file is not built yet
+pub record IsFirstUnbuilt (taken : List TakenFile) (path : List ℕ) : Type 0 where
+  pub among : Any (λ t. (t.path ≡ path) × (is_built t ≡ false)) taken
+  pub before : All (λ t. slice_cmp nat_cmp t.path path ≡ Less → is_built t ≡ true) taken
+
+-- the first package by its name whose document is refused
+pub record IsFirstUnsound (files : List NamedFile) (deps : List Dep) (name : List ℕ) : Type 0 where
+  pub among : Any (λ d. d.«package» ≡ name) deps
+  pub unsound : is_sound (index_for files name) ≡ false
+  pub before : All (λ d. slice_cmp nat_cmp d.«package» name ≡ Less → IsSound files d.«package») deps
+
+-- why the document of a package is refused: it has more than 67,108,864 bytes, a line outside the
+-- grammar, or more than 50,000 releases
+abbrev pub IsIndexRefusal : List ℕ → Index → RunError → Type 0
+IsIndexRefusal name absent error = ⊥
+IsIndexRefusal name (listed releases) error = ⊥
+IsIndexRefusal name too_long error = error ≡ Limit (codes "document") 67108864
+IsIndexRefusal name (bad line) error = error ≡ IndexRefused (npm_path name) line
+IsIndexRefusal name too_many error = error ≡ Limit (codes "releases") 50000
+
+-- the first document by its package's name that is refused, and why
+pub record HasUnsound (files : List NamedFile) (deps : List Dep) (error : RunError) : Type 0 where
+  pub name : List ℕ
+  pub first : IsFirstUnsound files deps name
+  pub cause : IsIndexRefusal name (index_for files name) error
+
+-- the causes in their order, each where none before it holds
+pub data IsRefusal (files : List NamedFile) (base : List MarkedFile) (error : RunError) : Type 0 where
+  many_dependencies : HaveMany base → error ≡ Limit (codes "dependencies") 20000 → IsRefusal files base error
+  configured : (taken : List TakenFile) → AreFew base taken → is_configured base ≡ true → error ≡ NotBuilt (codes "renovate.json") → IsRefusal files base error
+  unbuilt : (taken : List TakenFile) → AreFew base taken → is_configured base ≡ false → (path : List ℕ) → IsFirstUnbuilt taken path → error ≡ NotBuilt path → IsRefusal files base error
+  refused_document : (taken : List TakenFile) → AreBuilt base taken → HasUnsound files (deps_in taken) error → IsRefusal files base error

@@ -1,109 +1,167 @@
-ghost use Rattle.std.specs.Prelude.{◌≡◌, ◌++◌, ℕ, List as Items, IfOk, IfErr, OnOk};
+ghost use Rattle.std.specs.Prelude.{◌≡◌, ℕ, List as Items, Option, map, IfOk, IfErr, OnOk};
 ghost use Rattle.std.specs.List.{All};
-ghost use Rattle.std.specs.BTreeMap.{get};
-ghost use Rattle.std.specs.Ordering.{nat_cmp};
-ghost use Rattle.std.specs.Cmp.Lexicographic.{slice_cmp};
 ghost use Rattle.rnv_base.specs.Causes.{FaultsBy};
-ghost use Rattle.rnv_release.specs.Npm.{npm_path};
-ghost use Rattle.rnv_plan.specs.Gather.{releases_for, IsSound, ArePicked, IsGathered, IsGatheredFrom};
-ghost use Rattle.rnv_plan.specs.Refusal.{IfNotBuilt};
-ghost use Rattle.rnv_plan.specs.Unbuilt.{IsFirstUnsoundDep, IsUnbuilt, IsUnbuiltFrom};
+ghost use Rattle.rnv_forge.specs.Named.{IsRisingBy};
+ghost use Rattle.rnv_forge.specs.WellFormed.{AreInOrder};
+ghost use Rattle.rnv_release.specs.declared.release.Release.{Release as OfRelease};
+ghost use Rattle.rnv_plan.specs.declared.error.RunError.{RunError as Error};
+ghost use Rattle.rnv_plan.specs.Taken.{deps_in};
+ghost use Rattle.rnv_plan.specs.Gather.{releases_for, IsSound, ArePicked, AreFit, IsGathered, IsPickedFrom};
+ghost use Rattle.rnv_plan.specs.Refusal.{IfTold, HasUnsound, IsRefusal};
+ghost use Rattle.rnv_plan.specs.Plan.{unchanged, IsFolderBase, IsFolderRefusal, IsGatheredOf};
 
-use crate::RunError;
-use crate::dependencies::dependencies;
+use crate::building::built;
 use crate::indexes::read_indexes;
-use crate::only_file::only_file;
+use crate::picking::pick_files;
+use crate::taken::TakenFile;
+use crate::{Inputs, PickedFile, Planned, RunError};
 use rnv_base::{Folder, List, Text};
-use rnv_pick::{Dep, Update, updates};
-use rnv_release::Release;
+use rnv_checkout::{BaseError, FolderBase, read_base};
+use rnv_forge::{EditedFile, FileAt};
 use std::alloc::{AllocError, Global};
-use std::collections::BTreeMap;
-use std::convert::{AsSlice, AsStr};
+use std::convert::AsSlice;
 
-// The updates that the folder gives for a repository, by dependency, in the order of the file.
-pub(crate) fn gather_folder<O: Folder>(
+// The files in turn, with the updates of their dependencies from the folder's index.
+fn gather_taken<O: Folder>(
+    alloc: Global,
+    folder: &mut O,
+    taken: List<TakenFile>,
+) -> Result<List<PickedFile>, RunError>
+    ensures gathered { O.tells → IfOk result (λ picked. All (λ d. IsSound (O.files folder.old) d.«package») (deps_in taken) × ArePicked (releases_for (O.files folder.old)) taken picked) }
+    ensures picked { IfOk result (λ picked. (releases : Items ℕ → Option (Items OfRelease)) × ArePicked releases taken picked) }
+    ensures refused { O.tells → IfErr result (IfTold (HasUnsound (O.files folder.old) (deps_in taken))) }
+    ensures same { O.tells → (O.files folder.new ≡ O.files folder.old) }
+    ensures cause { FaultsBy (O.faults folder.old) (O.faults folder.new) result RunError.FolderFault }
+{
+    let indexes = read_indexes(alloc, folder, taken.as_slice())?;
+    Ok(pick_files(alloc, taken, &indexes)?)
+}
+
+// What is gathered of the files of a base, which stand by path.
+fn gather_files<O: Folder>(
+    alloc: Global,
+    folder: &mut O,
+    files: &[FileAt],
+) -> Result<List<PickedFile>, RunError>
+    requires { IsRisingBy (λ f. f.path) files.now }
+    ensures gathered { O.tells → IfOk result (IsGathered (O.files folder.old) files.now) }
+    ensures picked { IfOk result (IsPickedFrom files.now) }
+    ensures refused { O.tells → IfErr result (IfTold (IsRefusal (O.files folder.old) files.now)) }
+    ensures same { O.tells → (O.files folder.new ≡ O.files folder.old) }
+    ensures cause { FaultsBy (O.faults folder.old) (O.faults folder.new) result RunError.FolderFault }
+{
+    match built(alloc, files) {
+        Ok(taken) => gather_taken(alloc, folder, taken),
+        Err(error) => Err(error),
+    }
+}
+
+// These inputs. Only memory can fail.
+fn inputs(
+    alloc: Global,
+    repo: &str,
+    moment: u64,
+    picked: List<PickedFile>,
+) -> Result<Inputs, AllocError>
+    ensures { IfOk result (λ inputs. inputs ≡ record { repo = repo.now; moment = moment; picked = picked }) }
+{
+    Ok(Inputs {
+        repo: Text::copied(alloc, repo)?,
+        moment,
+        picked,
+    })
+}
+
+/// The inputs of a run of a repository with these files, which stand by path, for the configuration
+/// `{}`: per file that npm takes (`package.json` in any folder) its dependencies in turn, each with its
+/// updates from the folder's index of npm packages; other files are passed over. The first of these that
+/// holds is the refusal: `Limit` of the dependencies above 20,000 together; `NotBuilt` of
+/// `renovate.json`; `NotBuilt` of the first path by its bytes that Cargo or Docker takes, or where a value
+/// is not exact; then per package by its name `FolderFault` only where the folder's count of faults
+/// rose, `Limit` of its document above 67,108,864 bytes, `IndexRefused` where this is outside its grammar,
+/// `Limit` of its releases above 50,000. `Memory` may come at any point.
+pub fn gather_base<O: Folder>(
     alloc: Global,
     folder: &mut O,
     repo: &str,
-) -> Result<List<Update>, RunError>
-    ensures gathered { O.tells → IfOk result (IsGathered repo.now (O.files folder.old)) }
-    ensures unbuilt { O.tells → IfErr result (IfNotBuilt (IsUnbuilt repo.now (O.files folder.old))) }
+    moment: u64,
+    files: &List<FileAt>,
+) -> Result<Inputs, RunError>
+    requires { IsRisingBy (λ f. f.path) files.now }
+    ensures repo { IfOk result (λ inputs. inputs.repo ≡ repo.now) }
+    ensures moment { IfOk result (λ inputs. inputs.moment ≡ moment) }
+    ensures gathered { O.tells → IfOk result (λ inputs. IsGathered (O.files folder.old) files.now inputs.picked) }
+    // Also where the folder tells nothing.
+    ensures picked { IfOk result (λ inputs. IsPickedFrom files.now inputs.picked) }
+    ensures fit { IfOk result (λ inputs. AreFit files.now inputs.picked) }
+    ensures refused { O.tells → IfErr result (IfTold (IsRefusal (O.files folder.old) files.now)) }
+    ensures exactly { O.tells → OnOk result ((error : Error) → ¬ IsRefusal (O.files folder.old) files.now error) }
     ensures same { O.tells → (O.files folder.new ≡ O.files folder.old) }
     ensures cause { FaultsBy (O.faults folder.old) (O.faults folder.new) result RunError.FolderFault }
 {
-    match only_file(alloc, folder, repo) {
-        Ok(text) => gather_text(alloc, folder, text.as_str()),
-        Err(error) => Err(error),
-    }
+    let picked = gather_files(alloc, folder, files.as_slice())?;
+    Ok(inputs(alloc, repo, moment, picked)?)
 }
 
-// The updates of the dependencies in this text.
-fn gather_text<O: Folder>(
+// The files as never changed. Only memory can fail.
+fn unchanged(alloc: Global, files: List<EditedFile>) -> Result<List<FileAt>, AllocError>
+    ensures { IfOk result (λ base. base ≡ map unchanged files) }
+{
+    let mut base = List::empty(alloc);
+    for file in files.into_inner() {
+        base.push(FileAt {
+            path: file.path,
+            bytes: file.bytes,
+            changed: 0,
+        })?;
+    }
+    Ok(base)
+}
+
+// The files of the repository's folder as a base.
+fn folder_base<O: Folder>(
     alloc: Global,
     folder: &mut O,
-    text: &str,
-) -> Result<List<Update>, RunError>
-    ensures gathered { O.tells → IfOk result (IsGatheredFrom (O.files folder.old) text.now) }
-    ensures unbuilt { O.tells → IfErr result (IfNotBuilt (IsUnbuiltFrom (O.files folder.old) text.now)) }
+    repo: &str,
+) -> Result<List<FileAt>, RunError>
+    ensures base { O.tells → IfOk result (IsFolderBase repo.now (O.files folder.old)) }
+    ensures order { IfOk result (AreInOrder (λ f. f.path)) }
+    ensures refused { O.tells → IfErr result (IfTold (IsFolderRefusal repo.now (O.files folder.old))) }
     ensures same { O.tells → (O.files folder.new ≡ O.files folder.old) }
     ensures cause { FaultsBy (O.faults folder.old) (O.faults folder.new) result RunError.FolderFault }
 {
-    match dependencies(alloc, text) {
-        Ok(deps) => gather_deps(alloc, folder, deps.as_slice()),
-        Err(error) => Err(error),
+    match read_base(alloc, folder, repo) {
+        Ok(FolderBase { files, passed: _ }) => Ok(unchanged(alloc, files)?),
+        Err(BaseError::FolderFault) => Err(RunError::FolderFault),
+        Err(BaseError::Limit { which, number }) => Err(RunError::Limit { which, number }),
+        Err(BaseError::UnknownRepo) => Err(RunError::UnknownRepo),
+        Err(BaseError::Memory) => Err(RunError::Memory),
     }
 }
 
-// The updates of these dependencies.
-fn gather_deps<O: Folder>(
+/// What `gather_base` gives for the files of a repository's folder, with these files, each unchanged
+/// since revision 0. Before its refusals come those of the base: `FolderFault` only where the folder's
+/// count of faults rose, `Limit` of the files above 20,000, `Limit` of the base above 67,108,864 bytes,
+/// `UnknownRepo` exactly where no file is there.
+pub fn gather_folder<O: Folder>(
     alloc: Global,
     folder: &mut O,
-    deps: &[Dep],
-) -> Result<List<Update>, RunError>
-    ensures gathered { O.tells → IfOk result (λ updates. All (λ d. IsSound (O.files folder.old) d.«package») deps.now × ArePicked (releases_for (O.files folder.old)) deps.now updates) }
-    ensures unbuilt { O.tells → IfErr result (IfNotBuilt (λ path. (name : Items ℕ) × IsFirstUnsoundDep (O.files folder.old) deps.now name × (path ≡ npm_path name))) }
+    repo: &str,
+    moment: u64,
+) -> Result<Planned, RunError>
+    ensures repo { IfOk result (λ planned. planned.inputs.repo ≡ repo.now) }
+    ensures moment { IfOk result (λ planned. planned.inputs.moment ≡ moment) }
+    ensures gathered { O.tells → IfOk result (IsGatheredOf repo.now (O.files folder.old)) }
+    // Also where the folder tells nothing.
+    ensures picked { IfOk result (λ planned. IsPickedFrom planned.files planned.inputs.picked) }
+    ensures fit { IfOk result (λ planned. AreFit planned.files planned.inputs.picked) }
+    ensures order { IfOk result (λ planned. AreInOrder (λ f. f.path) planned.files) }
+    ensures refused { O.tells → IfErr result (IfTold (IsFolderRefusal repo.now (O.files folder.old))) }
+    ensures exactly { O.tells → OnOk result ((error : Error) → ¬ IsFolderRefusal repo.now (O.files folder.old) error) }
     ensures same { O.tells → (O.files folder.new ≡ O.files folder.old) }
     ensures cause { FaultsBy (O.faults folder.old) (O.faults folder.new) result RunError.FolderFault }
 {
-    match read_indexes(alloc, folder, deps) {
-        Ok(indexes) => picked(alloc, deps, &indexes),
-        Err(error) => Err(error),
-    }
-}
-
-// The updates of each dependency in turn. Only memory can fail.
-fn picked(
-    alloc: Global,
-    deps: &[Dep],
-    indexes: &BTreeMap<Text, List<Release>>,
-) -> Result<List<Update>, RunError>
-    ensures picked { IfOk result (ArePicked (λ name. get (slice_cmp nat_cmp) indexes.now name) deps.now) }
-    ensures memory { IfErr result (λ error. error ≡ RunError.Memory) }
-{
-    match pick_all(alloc, deps, indexes) {
-        Ok(updates) => Ok(List::new(updates)),
-        Err(_) => Err(RunError::Memory),
-    }
-}
-
-fn pick_all(
-    alloc: Global,
-    deps: &[Dep],
-    indexes: &BTreeMap<Text, List<Release>>,
-) -> Result<Vec<Update>, AllocError>
-    ensures { IfOk result (λ updates. ArePicked (λ name. get (slice_cmp nat_cmp) indexes.now name) deps.now updates.items) }
-{
-    let mut picked = Vec::new(alloc);
-    for dep in deps {
-        let here = updates(alloc, dep, indexes.get(&dep.package))?;
-        append(&mut picked, here)?;
-    }
-    Ok(picked)
-}
-
-// Puts the updates at the end. Only memory can fail.
-fn append(picked: &mut Vec<Update>, here: List<Update>) -> Result<(), AllocError>
-    ensures { OnOk result (picked.new.items ≡ picked.old.items ++ here) }
-{
-    picked.append(&mut here.into_inner())
+    let files = folder_base(alloc, folder, repo)?;
+    let inputs = gather_base(alloc, folder, repo, moment, &files)?;
+    Ok(Planned { inputs, files })
 }

@@ -3,19 +3,24 @@
 #![tactic(auto)]
 
 mod branch;
-mod dependencies;
+mod building;
 mod error;
 mod gather;
 mod grouping;
 mod indexes;
+mod inputs;
 mod item;
-mod only_file;
+mod managers;
+mod picking;
 mod planning;
+mod taken;
 #[cfg(test)]
 mod tests;
 
 pub use branch::branch_name;
 pub use error::RunError;
+pub use gather::{gather_base, gather_folder};
 pub use grouping::{items, one_order};
+pub use inputs::{Inputs, Picked, PickedDep, PickedFile, Planned};
 pub use item::Item;
-pub use planning::plan_folder;
+pub use planning::{one_refusal, plan_folder};

@@ -1,5 +1,9 @@
-use crate::{branch_name, items};
-use rnv_base::{List, ManagerKind, SourceKind, Text, UpdateKind};
+use crate::managers::manager_of;
+use crate::{
+    Item, RunError, branch_name, gather_base, gather_folder, items, one_order, one_refusal,
+    plan_folder,
+};
+use rnv_base::{Bytes, List, ManagerKind, MemFile, MemFolder, SourceKind, Text, UpdateKind};
 use rnv_pick::{Dep, Update};
 use std::alloc::{AllocError, Global};
 use std::convert::{AsSlice, AsStr};
@@ -95,4 +99,260 @@ fn update(
         new_value: Text::copied(alloc, value)?,
         kind,
     })
+}
+
+// Paths, and which manager takes their files.
+const PATHS: [(&str, Option<ManagerKind>); 14] = [
+    ("package.json", Some(ManagerKind::Npm)),
+    ("a/b/package.json", Some(ManagerKind::Npm)),
+    ("package.json/a", None),
+    ("package.json5", None),
+    ("a-package.json", None),
+    ("Cargo.toml", Some(ManagerKind::Cargo)),
+    ("crates/a/Cargo.toml", Some(ManagerKind::Cargo)),
+    ("cargo.toml", None),
+    ("Dockerfile", Some(ManagerKind::Dockerfile)),
+    ("a/Containerfile", Some(ManagerKind::Dockerfile)),
+    ("Dockerfile.dev", Some(ManagerKind::Dockerfile)),
+    ("Dockerfile.", Some(ManagerKind::Dockerfile)),
+    ("Dockerfiles", None),
+    ("Containerfile.dev", None),
+];
+
+#[test]
+fn names_managers(rt: HostRuntime) {
+    for (path, manager) in PATHS {
+        assert!(rt; manager_of(path) == manager, "of {path}");
+    }
+}
+
+// A file's path and text.
+type File = (&'static str, &'static str);
+
+const A: File = (
+    "index/npm/a.json",
+    "{\"versions\":{\"1.0.0\":{},\"1.1.0\":{}}}",
+);
+
+const BAD_A: File = ("index/npm/a.json", "{}");
+
+const BAD_B: File = ("index/npm/b.json", "[");
+
+const A_AND_B: &str = "{\"dependencies\":{\"b\":\"1.0.0\",\"a\":\"1.0.0\"}}";
+
+const A_TWICE: &str = "{\"dependencies\":{\"a\":\"1.0.1\"},\"devDependencies\":{\"a\":\"1.1.0\"}}";
+
+const RANGE: &str = "{\"dependencies\":{\"b\":\"^1.0.0\"}}";
+
+// The files of a folder, and what is said of the plan of `acme/web`.
+const PLANS: [(&[File], &str); 12] = [
+    (
+        &[
+            A,
+            ("repos/acme/web/README.md", "a"),
+            ("repos/acme/web/lib/package.json", "{\"a\":1"),
+            ("repos/acme/web/package.json", A_AND_B),
+            ("repos/acme/web/site/package.json", A_TWICE),
+            ("repos/acme/website/package.json", RANGE),
+        ],
+        "renovate/a-1.x package.json 1.0.0 1.1.0 site/package.json 1.0.1 1.1.0 ",
+    ),
+    (&[A, ("repos/acme/web/README.md", "a")], ""),
+    (&[A, ("repos/acme/website/package.json", "{}")], "unknown"),
+    (
+        &[
+            BAD_B,
+            ("repos/acme/web/Cargo.toml", ""),
+            ("repos/acme/web/package.json", RANGE),
+            ("repos/acme/web/renovate.json", "{}"),
+        ],
+        "not built renovate.json",
+    ),
+    (&[("repos/acme/web/a/renovate.json", "{}")], ""),
+    (
+        &[
+            BAD_B,
+            ("repos/acme/web/a/Cargo.toml", ""),
+            ("repos/acme/web/package.json", RANGE),
+        ],
+        "not built a/Cargo.toml",
+    ),
+    (
+        &[
+            BAD_B,
+            ("repos/acme/web/a/package.json", RANGE),
+            ("repos/acme/web/z/Dockerfile.dev", ""),
+        ],
+        "not built a/package.json",
+    ),
+    (
+        &[("repos/acme/web/Containerfile", "")],
+        "not built Containerfile",
+    ),
+    (
+        &[BAD_A, BAD_B, ("repos/acme/web/package.json", A_AND_B)],
+        "refused index/npm/a.json 1",
+    ),
+    (
+        &[A, BAD_B, ("repos/acme/web/package.json", A_AND_B)],
+        "refused index/npm/b.json 1",
+    ),
+    // The document of a package that no file names is not read.
+    (&[BAD_A, BAD_B, ("repos/acme/web/package.json", "{}")], ""),
+    (&[], "unknown"),
+];
+
+// A folder of these files, whose calls with these numbers fail.
+fn folder(alloc: Global, files: &[File], failing: &[u64]) -> Result<MemFolder, Fail> {
+    let mut list = List::empty(alloc);
+    for (path, text) in files {
+        list.push(MemFile {
+            path: Text::copied(alloc, path)?,
+            bytes: Bytes::new(Vec::from_slice(alloc, text.as_bytes())?),
+        })?;
+    }
+    let failing = List::new(Vec::from_slice(alloc, failing)?);
+    Ok(MemFolder::new(alloc, list, failing)?.ok_or("order")?)
+}
+
+// The branch of each item, and of each of its updates the file, the value and the new value.
+fn shown(alloc: Global, items: &[Item]) -> Result<String, AllocError> {
+    let mut line = String::new(alloc);
+    for item in items {
+        line.push_str(item.branch.as_str())?;
+        line.push(' ')?;
+        for update in item.updates.as_slice() {
+            let file = update.dep.file.as_str();
+            let value = update.dep.value.as_str();
+            let new_value = update.new_value.as_str();
+            line.push_str(format!(in alloc; "{file} {value} {new_value} ")?.as_str())?;
+        }
+    }
+    Ok(line)
+}
+
+// What a refusal says.
+fn told(alloc: Global, error: RunError) -> Result<String, AllocError> {
+    match error {
+        RunError::Memory => String::from_str(alloc, "memory"),
+        RunError::FolderFault => String::from_str(alloc, "fault"),
+        RunError::UnknownRepo => String::from_str(alloc, "unknown"),
+        RunError::NotBuilt { path } => {
+            let path = path.as_str();
+            format!(in alloc; "not built {path}")
+        }
+        RunError::Limit { which, number } => {
+            let which = which.as_str();
+            format!(in alloc; "{which} above {number}")
+        }
+        RunError::IndexRefused { file, line } => {
+            let file = file.as_str();
+            format!(in alloc; "refused {file} {line}")
+        }
+    }
+}
+
+// What is said of the plan of `acme/web`.
+fn said(alloc: Global, folder: &mut MemFolder) -> Result<String, AllocError> {
+    match plan_folder(alloc, folder, "acme/web", 0) {
+        Ok(items) => shown(alloc, items.as_slice()),
+        Err(error) => told(alloc, error),
+    }
+}
+
+#[test]
+fn plans(rt: HostRuntime) -> Result<(), Fail> {
+    one_order();
+    one_refusal();
+    for (files, want) in PLANS {
+        let mut folder = folder(rt.alloc(), files, &[])?;
+        let said = said(rt.alloc(), &mut folder)?;
+        assert!(rt; said.as_str() == want, "{said}");
+    }
+    Ok(())
+}
+
+// The folder is asked for the list, the file and the two documents.
+#[test]
+fn tells_faults(rt: HostRuntime) -> Result<(), Fail> {
+    let files = [A, ("repos/acme/web/package.json", A_AND_B)];
+    for call in 0u64..5 {
+        let mut folder = folder(rt.alloc(), files.as_slice(), [call].as_slice())?;
+        let said = said(rt.alloc(), &mut folder)?;
+        let want = if call < 4 {
+            "fault"
+        } else {
+            "renovate/a-1.x package.json 1.0.0 1.1.0 "
+        };
+        assert!(rt; said.as_str() == want, "{said} at call {call}");
+    }
+    Ok(())
+}
+
+// A `package.json` of so many dependencies.
+fn package(alloc: Global, count: u64) -> Result<Vec<u8>, AllocError> {
+    let mut text = String::from_str(alloc, "{\"dependencies\":{\"a\":\"1.0.0\"")?;
+    for number in 1..count {
+        text.push_str(format!(in alloc; ",\"a{number}\":\"1.0.0\"")?.as_str())?;
+    }
+    text.push_str("}}")?;
+    Vec::from_slice(alloc, text.as_bytes())
+}
+
+// A folder of two files, the first with so many dependencies and the second with 10,000.
+fn large_folder(alloc: Global, count: u64) -> Result<MemFolder, Fail> {
+    let mut list = List::empty(alloc);
+    for (path, count) in [
+        ("repos/acme/web/a/package.json", count),
+        ("repos/acme/web/package.json", 10_000),
+    ] {
+        list.push(MemFile {
+            path: Text::copied(alloc, path)?,
+            bytes: Bytes::new(package(alloc, count)?),
+        })?;
+    }
+    Ok(MemFolder::new(alloc, list, List::empty(alloc))?.ok_or("order")?)
+}
+
+#[test]
+fn counts_dependencies(rt: HostRuntime) -> Result<(), Fail> {
+    for (count, want) in [(10_000, ""), (10_001, "dependencies above 20000")] {
+        let mut folder = large_folder(rt.alloc(), count)?;
+        let said = said(rt.alloc(), &mut folder)?;
+        assert!(rt; said.as_str() == want, "{said} of {count}");
+    }
+    Ok(())
+}
+
+#[test]
+fn gathers(rt: HostRuntime) -> Result<(), Fail> {
+    let files = [
+        A,
+        ("repos/acme/web/README.md", "a"),
+        ("repos/acme/web/package.json", A_AND_B),
+        ("repos/acme/web/site/package.json", A_TWICE),
+    ];
+    let mut folder = folder(rt.alloc(), files.as_slice(), &[])?;
+    let Ok(planned) = gather_folder(rt.alloc(), &mut folder, "acme/web", 7) else {
+        return Err("not gathered".into());
+    };
+    let Ok(inputs) = gather_base(rt.alloc(), &mut folder, "acme/web", 8, &planned.files) else {
+        return Err("not gathered again".into());
+    };
+    assert_eq!(rt; planned.inputs.moment, 7);
+    assert_eq!(rt; planned.files.len(), 3);
+    assert_eq!(rt; inputs.repo.as_str(), "acme/web");
+    assert_eq!(rt; inputs.moment, 8);
+    assert_eq!(rt; inputs.picked.len(), 2);
+    for (file, path) in inputs
+        .picked
+        .as_slice()
+        .iter()
+        .zip(["package.json", "site/package.json"])
+    {
+        assert_eq!(rt; file.path.as_str(), path);
+        assert_eq!(rt; file.manager, ManagerKind::Npm);
+        assert_eq!(rt; file.deps.len(), 2);
+    }
+    Ok(())
 }

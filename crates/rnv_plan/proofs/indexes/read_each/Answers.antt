@@ -1,30 +1,33 @@
-use Rattle.std.proofs.Common.{false, Err, ◌≡◌, ℕ, List, [], ◌∷◌, ◌++◌, ◌∙◌, sym, ap, subst, arith, append-nil}
+use Rattle.std.proofs.Common.{Err, ◌≡◌, [], ◌∷◌, ◌++◌, ◌∙◌, sym, ap, subst, arith, append-nil}
 use Rattle.std.specs.BTreeSet.{keys}
 use Rattle.std.specs.BTreeMap.{get}
 use Rattle.std.specs.List.{All}
 use Rattle.std.specs.Ordering.{nat_cmp}
 use Rattle.std.specs.Cmp.Lexicographic.{slice_cmp}
 use Rattle.std.proofs.lemmas.Result.{err_from_is_err_and}
-use Rattle.rnv_release.specs.Npm.{npm_path}
-use Rattle.rnv_plan.specs.Gather.{index_for, is_sound, releases_for, IsSound}
-use Rattle.rnv_plan.specs.Refusal.{IfNotBuilt}
-use Rattle.rnv_plan.specs.Unbuilt.{IsFirstUnsoundName}
-use Rattle.rnv_plan.proofs.Documents.{AreRead, IfErr-at, IfNotBuilt-both, first_refused, parts_more, carried, AreRead-absent, AreRead-listed}
+use Rattle.rnv_plan.specs.Gather.{index_for, releases_for, IsSound}
+use Rattle.rnv_plan.specs.Refusal.{IfTold, IsIndexRefusal}
+use Rattle.rnv_plan.specs.Packages.{HasUnsoundName}
+use Rattle.rnv_plan.proofs.Documents.{AreRead, first_refused, refusal-unsound, parts_more, carried, AreRead-absent, AreRead-listed}
+use Rattle.rnv_plan.proofs.Told.{told-at}
 use Rattle.rnv_plan.proofs.indexes.read_each.Given.{Over}
 use Rattle.rnv_plan.proofs.indexes.read_each.Goals.{In_ok-insert}
 use Rattle.rnv_plan.proofs.indexes.read_each.Goals as goal
 
-pub returns-in_err-releases-clause-unbuilt : goal.returns-in_err-releases-clause-unbuilt
-returns-in_err-releases-clause-unbuilt g c =
+pub returns-in_err-releases-clause-refused : goal.returns-in_err-releases-clause-refused
+returns-in_err-releases-clause-refused g c =
     let files = g.O.Folder.files c.args.folder.now in
     let names = keys c.args.names in
+    let name = c.in-Some.name in
     let refused = c.in_err-releases.field-0.0 in
     let ends = err_from_is_err_and c.from_residual.result c.from_residual.ensures.1 in
-    λ t. IfErr-at (IfNotBuilt (λ path. (name : List ℕ) × IsFirstUnsoundName files names name × (path ≡ npm_path name))) c.from_residual.result refused (ends.1 ∙ ap Err ends.2)
-    (IfNotBuilt-both (λ path. is_sound (index_for files c.in-Some.name) ≡ false) (λ path. path ≡ npm_path c.in-Some.name) (λ path. (name : List ℕ) × IsFirstUnsoundName files names name × (path ≡ npm_path name)) refused
-    (λ path unsound same. (c.in-Some.name, first_refused files names c.loop-name.yielded c.loop-name.name-iterator c.next.new.self c.in-Some.name c.into_iter-name-iterator.ensures.into_iter_gives.4 c.loop-name.invariant.parts c.in-Some.ensures.steps (c.loop-name.invariant.read t).sound unsound, same))
-    (carried (λ f n. IfNotBuilt (λ path. is_sound (index_for f n) ≡ false) refused) _ _ _ _ (c.loop-name.invariant.same t) c.as_str.ensures (c.in_err-releases.ensures.unsound t))
-    (subst (λ n. IfNotBuilt (λ path. path ≡ npm_path n) refused) c.as_str.ensures c.in_err-releases.ensures.path))
+    λ t. told-at c.from_residual.result refused (IsIndexRefusal name (index_for files name)) (HasUnsoundName files names) (ends.1 ∙ ap Err ends.2)
+    (λ e cause. record {
+      name = name;
+      first = first_refused files names c.loop-name.yielded c.loop-name.name-iterator c.next.new.self name c.into_iter-name-iterator.ensures.into_iter_gives.4 c.loop-name.invariant.parts c.in-Some.ensures.steps (c.loop-name.invariant.read t).sound (refusal-unsound name (index_for files name) e cause);
+      cause = cause;
+    })
+    (carried (λ f n. IfTold (IsIndexRefusal n (index_for f n)) refused) _ _ _ _ (c.loop-name.invariant.same t) c.as_str.ensures (c.in_err-releases.ensures.refused t))
 
 listed : (g : Over) (c : In_ok-insert g) → g.O.Folder.tells → AreRead (IsSound (g.O.Folder.files c.args.folder.now)) (releases_for (g.O.Folder.files c.args.folder.now)) (c.loop-name.yielded ++ c.in-Some.name ∷ []) c.insert.new.self
 listed g c t =

@@ -1,18 +1,26 @@
-use Rattle.std.proofs.Common.{ℕ, List}
-use Rattle.std.proofs.lemmas.Result.{IfOk-weaker, IfErr-weaker}
-use Rattle.rnv_plan.specs.Unbuilt.{IsUnbuilt, many_items}
-use Rattle.rnv_plan.proofs.Finds.{refused-further}
-use Rattle.rnv_plan.proofs.Built.{planned-built}
+use Rattle.std.proofs.lemmas.Result.{IfOk-weaker}
+use Rattle.rnv_plan.specs.declared.error.RunError.{RunError}
+use Rattle.rnv_plan.specs.Gather.{updates_in}
+use Rattle.rnv_plan.specs.Plan.{AreFewItems, HaveManyItems, IsFolderRefusal, IsPlanRefusal, not_gathered, many_items}
+use Rattle.rnv_plan.proofs.Bases.{plan-fine}
+use Rattle.rnv_plan.proofs.Told.{told-weaker, IfTold-weaker}
 use Rattle.rnv_plan.proofs.planning.plan_folder.Goals as goal
 
 pub returns-in-Ok-clause-planned : goal.returns-in-Ok-clause-planned
 returns-in-Ok-clause-planned g c = λ t.
-    IfOk-weaker c.few_items.result _ _ (λ items few. record { updates = c.in-Ok.updates; gathered = c.in-Ok.ensures.gathered t; few = few }) c.few_items.ensures.few
+    IfOk-weaker c.picked_items.result _ _ (λ items few. record { planned = c.in-Ok.planned; gathered = c.in-Ok.ensures.gathered t; few = few }) c.picked_items.ensures.few
 
-pub returns-in-Ok-clause-unbuilt : goal.returns-in-Ok-clause-unbuilt
-returns-in-Ok-clause-unbuilt g c = λ t.
-    IfErr-weaker c.few_items.result _ _ (λ e h. refused-further _ (IsUnbuilt c.args.repo.now (g.O.Folder.files c.args.folder.now)) e (λ path many. many_items c.in-Ok.updates (c.in-Ok.ensures.gathered t) many) h) c.few_items.ensures.many
+pub returns-in-Ok-clause-refused : goal.returns-in-Ok-clause-refused
+returns-in-Ok-clause-refused g c = λ t.
+    told-weaker c.picked_items.result (HaveManyItems (updates_in c.in-Ok.planned.inputs.picked)) (IsPlanRefusal c.args.repo.now (g.O.Folder.files c.args.folder.now))
+    (λ e many. many_items c.in-Ok.planned (c.in-Ok.ensures.gathered t) many) c.picked_items.ensures.many
 
 pub returns-in-Ok-clause-exactly : goal.returns-in-Ok-clause-exactly
 returns-in-Ok-clause-exactly g c = λ t.
-    IfOk-weaker c.few_items.result _ (λ items. (path : List ℕ) → ¬ (IsUnbuilt c.args.repo.now (g.O.Folder.files c.args.folder.now) path)) (λ items few. planned-built c.args.repo.now (g.O.Folder.files c.args.folder.now) items (record { updates = c.in-Ok.updates; gathered = c.in-Ok.ensures.gathered t; few = few })) c.few_items.ensures.few
+    IfOk-weaker c.picked_items.result (AreFewItems (updates_in c.in-Ok.planned.inputs.picked)) (λ items. (e : RunError) → ¬ (IsPlanRefusal c.args.repo.now (g.O.Folder.files c.args.folder.now) e))
+    (λ items few. plan-fine c.args.repo.now (g.O.Folder.files c.args.folder.now) items (record { planned = c.in-Ok.planned; gathered = c.in-Ok.ensures.gathered t; few = few })) c.picked_items.ensures.few
+
+pub returns-in-Err-clause-refused : goal.returns-in-Err-clause-refused
+returns-in-Err-clause-refused g c = λ t.
+    IfTold-weaker (IsFolderRefusal c.args.repo.now (g.O.Folder.files c.args.folder.now)) (IsPlanRefusal c.args.repo.now (g.O.Folder.files c.args.folder.now)) c.in-Err.error
+    (λ e refused. not_gathered refused) (c.in-Err.ensures.refused t)

@@ -1,0 +1,117 @@
+-- A base that is gathered has no refusal, and no base has two.
+use Rattle.std.proofs.Common.{◌≡◌, ℕ, List, Bool, true, false, length, refl, sym, ◌∙◌, ap, subst, arith}
+use Rattle.std.specs.List.{All, Any}
+use Rattle.std.specs.Ordering.{nat_cmp, ordering_reverse, is_eq}
+use Rattle.std.specs.Cmp.Lexicographic.{slice_cmp}
+use Rattle.std.specs.declared.cmp.Ordering.{Ordering}
+use Rattle.std.specs.declared.cmp.Ordering.TheVariants.{Less, Equal, Greater}
+use Rattle.std.proofs.lemmas.Cmp.{nat_list_cmp_total}
+use Rattle.std.proofs.lemmas.List.Elements.{All-contains}
+use Rattle.std.proofs.lemmas.Map.Lookups.{exact_bytes}
+use Rattle.std.proofs.lemmas.Map.Views.{tells_apart}
+use Rattle.rnv_base.specs.Files.{NamedFile}
+use Rattle.rnv_forge.specs.Files.{MarkedFile}
+use Rattle.rnv_release.specs.Index.{Index, absent, listed, too_long, bad, too_many}
+use Rattle.rnv_pick.specs.declared.dep.Dep.{Dep}
+use Rattle.rnv_plan.specs.declared.error.RunError.{RunError}
+use Rattle.rnv_plan.specs.declared.inputs.PickedFile.{PickedFile}
+use Rattle.rnv_plan.specs.declared.taken.TakenFile.{TakenFile}
+use Rattle.rnv_plan.specs.Taken.{deps_in, is_built, is_configured}
+use Rattle.rnv_plan.specs.Gather.{AreFew, IsGathered, index_for, is_sound, IsSound}
+use Rattle.rnv_plan.specs.Refusal.{HaveMany, IsFirstUnbuilt, IsFirstUnsound, HasUnsound, IsIndexRefusal, IsRefusal, many_dependencies, configured, unbuilt, refused_document}
+use Rattle.rnv_plan.proofs.TakenFiles.{taken-one}
+
+true-false : (b : Bool) → b ≡ true → b ≡ false → ⊥
+true-false b is_so not_so = cc
+
+-- a test of a key that holds of each element fails of none
+clash : {X : Type 0} (key : X → List ℕ) (test : X → Bool) (xs : List X) (name : List ℕ) → All (λ x. test x ≡ true) xs → Any (λ x. (key x ≡ name) × (test x ≡ false)) xs → ⊥
+clash key test xs name each (k, x, l, is, p) = true-false (test x) (All-contains (λ y. test y ≡ true) xs x each (k, l, is)) p.1
+
+sound-clash : (files : List NamedFile) (deps : List Dep) (name : List ℕ) → All (λ d. IsSound files d.«package») deps → IsFirstUnsound files deps name → ⊥
+sound-clash files deps name each first =
+    let some = first.among in
+    let here = All-contains (λ d. IsSound files d.«package») deps some.1 each (some.0, some.2, some.3) in
+    true-false (is_sound (index_for files name)) (subst (λ (n : List ℕ). is_sound (index_for files n) ≡ true) some.4 here) first.unsound
+
+few-many : (base : List MarkedFile) (ts : List TakenFile) → AreFew base ts → HaveMany base → ⊥
+few-many base ts few many =
+    let same = ap (λ (us : List TakenFile). length (deps_in us)) (taken-one base ts many.taken few.read many.read) in
+    omega (arith, same, few.few, many.many)
+
+few-one : (base : List MarkedFile) (ts us : List TakenFile) → AreFew base ts → AreFew base us → ts ≡ us
+few-one base ts us a b = taken-one base ts us a.read b.read
+
+pub gathered-fine : (files : List NamedFile) (base : List MarkedFile) (picked : List PickedFile) → IsGathered files base picked → (e : RunError) → ¬ (IsRefusal files base e)
+gathered-fine files base picked g e (many_dependencies many same) = few-many base g.taken g.built.few many
+gathered-fine files base picked g e (configured ts few is_so same) = true-false (is_configured base) is_so g.built.plain
+gathered-fine files base picked g e (unbuilt ts few not_so path first same) =
+    clash (λ (t : TakenFile). t.path) is_built ts path (subst (All (λ t. is_built t ≡ true)) (few-one base g.taken ts g.built.few few) g.built.built) first.among
+gathered-fine files base picked g e (refused_document ts built refused) =
+    sound-clash files (deps_in ts) refused.name (subst (λ (us : List TakenFile). All (λ d. IsSound files d.«package») (deps_in us)) (few-one base g.taken ts g.built.few built.few) g.sound) refused.first
+
+-- ---- the first by bytes is one
+
+-- two names, neither of which is below the other
+same-name : (p q : List ℕ) → (slice_cmp nat_cmp p q ≡ Less → ⊥) → (slice_cmp nat_cmp q p ≡ Less → ⊥) → (r : Ordering) → slice_cmp nat_cmp p q ≡ r → p ≡ q
+same-name p q not_below not_above Less is = absurd (not_below is)
+same-name p q not_below not_above Equal is = tells_apart exact_bytes p q (ap (λ (o : Ordering). is_eq o) is)
+same-name p q not_below not_above Greater is = absurd (not_above (nat_list_cmp_total.antisymm q p ∙ ap ordering_reverse is))
+
+first-below : {X : Type 0} (key : X → List ℕ) (test : X → Bool) (xs : List X) (p q : List ℕ) → Any (λ x. (key x ≡ p) × (test x ≡ false)) xs → All (λ x. slice_cmp nat_cmp (key x) q ≡ Less → test x ≡ true) xs → slice_cmp nat_cmp p q ≡ Less → ⊥
+first-below key test xs p q (k, x, l, is, at) before below =
+    true-false (test x) (All-contains (λ y. slice_cmp nat_cmp (key y) q ≡ Less → test y ≡ true) xs x before (k, l, is) (subst (λ (n : List ℕ). slice_cmp nat_cmp n q ≡ Less) (sym at.0) below)) at.1
+
+unbuilt-one : (ts : List TakenFile) (p q : List ℕ) → IsFirstUnbuilt ts p → IsFirstUnbuilt ts q → p ≡ q
+unbuilt-one ts p q a b =
+    same-name p q
+    (first-below (λ (t : TakenFile). t.path) is_built ts p q a.among b.before)
+    (first-below (λ (t : TakenFile). t.path) is_built ts q p b.among a.before)
+    (slice_cmp nat_cmp p q) refl
+
+unsound-below : (files : List NamedFile) (deps : List Dep) (p q : List ℕ) → IsFirstUnsound files deps p → IsFirstUnsound files deps q → slice_cmp nat_cmp p q ≡ Less → ⊥
+unsound-below files deps p q a b below =
+    let some = a.among in
+    let here = All-contains (λ d. slice_cmp nat_cmp d.«package» q ≡ Less → IsSound files d.«package») deps some.1 b.before (some.0, some.2, some.3) in
+    let sound = here (subst (λ (n : List ℕ). slice_cmp nat_cmp n q ≡ Less) (sym some.4) below) in
+    true-false (is_sound (index_for files p)) (subst (λ (n : List ℕ). is_sound (index_for files n) ≡ true) some.4 sound) a.unsound
+
+name-one : (files : List NamedFile) (deps : List Dep) (p q : List ℕ) → IsFirstUnsound files deps p → IsFirstUnsound files deps q → p ≡ q
+name-one files deps p q a b = same-name p q (unsound-below files deps p q a b) (unsound-below files deps q p b a) (slice_cmp nat_cmp p q) refl
+
+cause-one : (name : List ℕ) (index : Index) (e f : RunError) → IsIndexRefusal name index e → IsIndexRefusal name index f → e ≡ f
+cause-one name absent e f a b = absurd a
+cause-one name (listed releases) e f a b = absurd a
+cause-one name too_long e f a b = a ∙ sym b
+cause-one name (bad line) e f a b = a ∙ sym b
+cause-one name too_many e f a b = a ∙ sym b
+
+unsound-one : (files : List NamedFile) (deps : List Dep) (e f : RunError) → HasUnsound files deps e → HasUnsound files deps f → e ≡ f
+unsound-one files deps e f a b =
+    cause-one b.name (index_for files b.name) e f (subst (λ (n : List ℕ). IsIndexRefusal n (index_for files n) e) (name-one files deps a.name b.name a.first b.first) a.cause) b.cause
+
+-- ---- one refusal
+
+module _ (files : List NamedFile) (base : List MarkedFile) (e f : RunError) where
+  pub refusal-one : IsRefusal files base e → IsRefusal files base f → e ≡ f
+  refusal-one (many_dependencies many a) (many_dependencies many' b) = a ∙ sym b
+  refusal-one (many_dependencies many a) (configured ts few is_so b) = absurd (few-many base ts few many)
+  refusal-one (many_dependencies many a) (unbuilt ts few not_so path first b) = absurd (few-many base ts few many)
+  refusal-one (many_dependencies many a) (refused_document ts built refused) = absurd (few-many base ts built.few many)
+  refusal-one (configured ts few is_so a) (many_dependencies many b) = absurd (few-many base ts few many)
+  refusal-one (configured ts few is_so a) (configured ts' few' is_so' b) = a ∙ sym b
+  refusal-one (configured ts few is_so a) (unbuilt ts' few' not_so path first b) = absurd (true-false (is_configured base) is_so not_so)
+  refusal-one (configured ts few is_so a) (refused_document ts' built refused) = absurd (true-false (is_configured base) is_so built.plain)
+  refusal-one (unbuilt ts few not_so path first a) (many_dependencies many b) = absurd (few-many base ts few many)
+  refusal-one (unbuilt ts few not_so path first a) (configured ts' few' is_so b) = absurd (true-false (is_configured base) is_so not_so)
+  refusal-one (unbuilt ts few not_so path first a) (unbuilt ts' few' not_so' path' first' b) =
+      let same : path ≡ path' = unbuilt-one ts' path path' (subst (λ (us : List TakenFile). IsFirstUnbuilt us path) (few-one base ts ts' few few') first) first' in
+      cc
+  refusal-one (unbuilt ts few not_so path first a) (refused_document ts' built refused) =
+      absurd (clash (λ (t : TakenFile). t.path) is_built ts' path built.built (subst (λ (us : List TakenFile). Any (λ t. (t.path ≡ path) × (is_built t ≡ false)) us) (few-one base ts ts' few built.few) first.among))
+  refusal-one (refused_document ts built refused) (many_dependencies many b) = absurd (few-many base ts built.few many)
+  refusal-one (refused_document ts built refused) (configured ts' few' is_so b) = absurd (true-false (is_configured base) is_so built.plain)
+  refusal-one (refused_document ts built refused) (unbuilt ts' few' not_so path first b) =
+      absurd (clash (λ (t : TakenFile). t.path) is_built ts' path (subst (All (λ t. is_built t ≡ true)) (few-one base ts ts' built.few few') built.built) first.among)
+  refusal-one (refused_document ts built refused) (refused_document ts' built' refused') =
+      unsound-one files (deps_in ts') e f (subst (λ (us : List TakenFile). HasUnsound files (deps_in us) e) (few-one base ts ts' built.few built'.few) refused) refused'

@@ -1,0 +1,5 @@
+use Rattle.rnv_plan.proofs.Bases.{plan-fine, plan-one}
+use Rattle.rnv_plan.proofs.planning.one_refusal.Goals as goal
+
+pub returns : goal.returns
+returns c = λ repo files. record { one = plan-one repo files; none = λ items e p. plan-fine repo files items p e }

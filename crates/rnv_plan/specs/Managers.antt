@@ -1,0 +1,23 @@
+-- Which manager takes a file, by the last part of its path.
+use Rattle.std.specs.Prelude.{ℕ, List, Bool, ◌==◌, ◌||◌, if◌then◌else◌, Option, Some, None, codes}
+use Rattle.std.specs.List.{after_last, starts_with}
+use Rattle.std.specs.Cmp.Lexicographic.{pointwise}
+use Rattle.rnv_base.specs.declared.kinds.ManagerKind.{ManagerKind}
+use Rattle.rnv_base.specs.declared.kinds.ManagerKind.TheVariants.{Cargo, Npm, Dockerfile}
+
+-- what stands behind the last slash, or all where there is none
+abbrev pub last_segment : List ℕ → List ℕ
+last_segment path = after_last (λ b. b == 47) path
+
+abbrev pub is_dockerfile : List ℕ → Bool
+is_dockerfile name = pointwise ◌==◌ name (codes "Dockerfile") || pointwise ◌==◌ name (codes "Containerfile") || starts_with ◌==◌ name (codes "Dockerfile.")
+
+abbrev pub manager_named : List ℕ → Option ManagerKind
+manager_named name =
+    if pointwise ◌==◌ name (codes "package.json") then Some Npm
+    else (if pointwise ◌==◌ name (codes "Cargo.toml") then Some Cargo
+    else (if is_dockerfile name then Some Dockerfile else None))
+
+-- the manager that takes the file at this path, if one does
+unfoldable pub manager_of : List ℕ → Option ManagerKind
+manager_of path = manager_named (last_segment path)

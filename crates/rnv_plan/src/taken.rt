@@ -1,0 +1,142 @@
+ghost use Rattle.std.specs.Prelude.{◌≡◌, ◌≢◌, ◌≤◌, ◌<◌, List as Items, codes, map, length, IfOk, IfErr};
+ghost use Rattle.std.specs.Str.{IsUtf8};
+ghost use Rattle.rnv_manager.specs.Finds.{Find, view, views};
+ghost use Rattle.rnv_plan.specs.Taken.{AreDeps, AreFinds, AreTaken, deps_in, dep_of};
+ghost use Rattle.rnv_plan.specs.Gather.{AreFew};
+ghost use Rattle.rnv_plan.specs.Refusal.{IfTold, HaveMany};
+
+use crate::RunError;
+use crate::error::limit;
+use crate::managers::manager_of;
+use rnv_base::{List, ManagerKind, Share, Text};
+use rnv_forge::FileAt;
+use rnv_manager::{ExtractError, Found, Manager};
+use rnv_package_json::NpmManager;
+use rnv_pick::Dep;
+use std::alloc::{AllocError, Global};
+use std::convert::{AsSlice, AsStr};
+
+// As many dependencies has a base.
+const MOST: usize = 20_000;
+
+// A file with the manager that takes it and its dependencies, in the order in which they stand there.
+#[derive(Drop)]
+pub(crate) struct TakenFile {
+    pub(crate) path: Text,
+    pub(crate) manager: ManagerKind,
+    pub(crate) deps: List<Dep>,
+}
+
+// The finds of a text, none where it is outside npm's grammar. Only memory can fail.
+fn found_in<'a>(
+    alloc: Global,
+    npm: &'a NpmManager,
+    text: &'a str,
+) -> Result<List<Found<'a>>, AllocError>
+    ensures { IfOk result (λ found. AreFinds ManagerKind.Npm text.now (views found)) }
+{
+    match npm.extract(alloc, text) {
+        Ok(found) => Ok(found),
+        Err(ExtractError::BadSyntax) => Ok(List::empty(alloc)),
+        Err(ExtractError::Memory) => Err(AllocError),
+    }
+}
+
+// The finds of a `package.json` of these bytes, none where they are no text. Only memory can fail.
+fn found<'a>(
+    alloc: Global,
+    npm: &'a NpmManager,
+    bytes: &'a [u8],
+) -> Result<List<Found<'a>>, AllocError>
+    ensures { IfOk result (λ found. AreFinds ManagerKind.Npm bytes.now (views found)) }
+{
+    match std::str::from_utf8(bytes) {
+        Ok(text) => found_in(alloc, npm, text),
+        Err(_) => Ok(List::empty(alloc)),
+    }
+}
+
+// A find as a dependency of the file at this path.
+fn dep(alloc: Global, path: &str, found: &Found) -> Result<Dep, AllocError>
+    ensures { IfOk result (λ dep. dep ≡ dep_of path.now ManagerKind.Npm (view found.now)) }
+{
+    Ok(Dep {
+        file: Text::copied(alloc, path)?,
+        manager: ManagerKind::Npm,
+        source: found.source,
+        place: Text::copied(alloc, found.place)?,
+        name: Text::copied(alloc, found.name)?,
+        package: Text::copied(alloc, found.package)?,
+        value: Text::copied(alloc, found.value)?,
+        start: found.start,
+    })
+}
+
+// The finds as dependencies of the file at this path.
+fn deps(alloc: Global, path: &str, found: &[Found]) -> Result<List<Dep>, AllocError>
+    ensures { IfOk result (λ deps. deps ≡ map (dep_of path.now ManagerKind.Npm) (views found.now)) }
+{
+    let mut deps = List::empty(alloc);
+    for one in found {
+        deps.push(dep(alloc, path, one)?)?;
+    }
+    Ok(deps)
+}
+
+// The dependencies of a `package.json`, at most as many as there is room for.
+fn npm_deps(alloc: Global, file: &FileAt, room: usize) -> Result<List<Dep>, RunError>
+    ensures deps { IfOk result (AreDeps ManagerKind.Npm file.now) }
+    ensures few { IfOk result (λ deps. length deps ≤ room) }
+    ensures many { IfErr result (IfTold (λ error. (deps : Items Dep) × AreDeps ManagerKind.Npm file.now deps × (room < length deps) × (error ≡ RunError.Limit (codes "dependencies") 20000))) }
+    ensures fault { result ≢ Err RunError.FolderFault }
+{
+    let npm = NpmManager;
+    let found = found(alloc, &npm, file.bytes.as_slice())?;
+    if found.len() > room {
+        return Err(limit(alloc, "dependencies", 20_000));
+    }
+    Ok(deps(alloc, file.path.as_str(), found.as_slice())?)
+}
+
+// The dependencies of a file that this manager takes, at most as many as there is room for.
+fn file_deps(
+    alloc: Global,
+    manager: ManagerKind,
+    file: &FileAt,
+    room: usize,
+) -> Result<List<Dep>, RunError>
+    ensures deps { IfOk result (AreDeps manager file.now) }
+    ensures few { IfOk result (λ deps. length deps ≤ room) }
+    ensures many { IfErr result (IfTold (λ error. (deps : Items Dep) × AreDeps manager file.now deps × (room < length deps) × (error ≡ RunError.Limit (codes "dependencies") 20000))) }
+    ensures fault { result ≢ Err RunError.FolderFault }
+{
+    match manager {
+        ManagerKind::Npm => npm_deps(alloc, file, room),
+        ManagerKind::Cargo | ManagerKind::Dockerfile | ManagerKind::Regex => {
+            Ok(List::empty(alloc))
+        }
+    }
+}
+
+// The files of a base that managers take, in its order, with their dependencies. `Limit` exactly
+// where these are more than 20,000 together.
+pub(crate) fn taken(alloc: Global, files: &[FileAt]) -> Result<List<TakenFile>, RunError>
+    ensures few { IfOk result (AreFew files.now) }
+    ensures many { IfErr result (IfTold (λ error. HaveMany files.now × (error ≡ RunError.Limit (codes "dependencies") 20000))) }
+    ensures fault { result ≢ Err RunError.FolderFault }
+{
+    let mut taken = List::empty(alloc);
+    let mut room = MOST;
+    for file in files {
+        if let Some(manager) = manager_of(file.path.as_str()) {
+            let deps = file_deps(alloc, manager, file, room)?;
+            room -= deps.len();
+            taken.push(TakenFile {
+                path: file.path.share(alloc)?,
+                manager,
+                deps,
+            })?;
+        }
+    }
+    Ok(taken)
+}
