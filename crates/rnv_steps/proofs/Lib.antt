@@ -1,4 +1,5 @@
 pub mod Compared
+pub mod Distinct
 pub mod Ending
 pub mod Grouped
 pub mod Indexed

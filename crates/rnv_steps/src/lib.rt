@@ -8,6 +8,8 @@ mod index;
 mod lookup;
 mod seen;
 mod stepping;
+#[cfg(test)]
+mod tests;
 mod work;
 
 pub use content::contents;
