@@ -1,12 +1,13 @@
 -- What an error tells, carried along.
 use Rattle.std.proofs.Common.{◌≡◌, Result, Ok, Err, IfOk, IfErr, sym, subst}
 use Rattle.rnv_plan.specs.declared.error.RunError.{RunError}
-use Rattle.rnv_plan.specs.declared.error.RunError.TheVariants.{Memory, FolderFault, UnknownRepo, NotBuilt, Limit, IndexRefused}
+use Rattle.rnv_plan.specs.declared.error.RunError.TheVariants.{Memory, FolderFault, DiskFault, UnknownRepo, NotBuilt, Limit, IndexRefused}
 use Rattle.rnv_plan.specs.Refusal.{IfTold}
 
 pub IfTold-weaker : (P Q : RunError → Type 0) (e : RunError) → ((f : RunError) → P f → Q f) → IfTold P e → IfTold Q e
 IfTold-weaker P Q Memory weaker p = tt
 IfTold-weaker P Q FolderFault weaker p = tt
+IfTold-weaker P Q DiskFault weaker p = weaker DiskFault p
 IfTold-weaker P Q UnknownRepo weaker p = weaker UnknownRepo p
 IfTold-weaker P Q (NotBuilt path) weaker p = weaker (NotBuilt path) p
 IfTold-weaker P Q (Limit which number) weaker p = weaker (Limit which number) p

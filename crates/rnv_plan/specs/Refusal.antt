@@ -10,7 +10,7 @@ use Rattle.rnv_release.specs.Npm.{npm_path}
 use Rattle.rnv_release.specs.Index.{Index, absent, listed, too_long, bad, too_many}
 use Rattle.rnv_pick.specs.declared.dep.Dep.{Dep}
 use Rattle.rnv_plan.specs.declared.error.RunError.{RunError}
-use Rattle.rnv_plan.specs.declared.error.RunError.TheVariants.{Memory, FolderFault, UnknownRepo, NotBuilt, Limit, IndexRefused}
+use Rattle.rnv_plan.specs.declared.error.RunError.TheVariants.{Memory, FolderFault, DiskFault, UnknownRepo, NotBuilt, Limit, IndexRefused}
 use Rattle.rnv_plan.specs.declared.taken.TakenFile.{TakenFile}
 use Rattle.rnv_plan.specs.Taken.{AreTaken, deps_in, is_configured, is_built}
 use Rattle.rnv_plan.specs.Gather.{AreFew, AreBuilt, index_for, is_sound, IsSound}
@@ -19,6 +19,7 @@ use Rattle.rnv_plan.specs.Gather.{AreFew, AreBuilt, index_for, is_sound, IsSound
 abbrev pub IfTold : (RunError → Type 0) → RunError → Type 0
 IfTold P Memory = Unit {0}
 IfTold P FolderFault = Unit {0}
+IfTold P DiskFault = P DiskFault
 IfTold P UnknownRepo = P UnknownRepo
 IfTold P (NotBuilt path) = P (NotBuilt path)
 IfTold P (Limit which number) = P (Limit which number)

@@ -12,13 +12,15 @@ pub enum RunError {
     Memory,
     /// The folder failed, and has counted the fault.
     FolderFault,
+    /// The disk failed in a write, and has counted the fault.
+    DiskFault,
     /// There is no such repository.
     UnknownRepo,
     /// What stands at this path is not built yet.
     NotBuilt { path: Text },
     /// There is more than this number of something: `files` above 20,000, bytes of the `base` above
     /// 67,108,864, `dependencies` above 20,000, bytes of a `document` above 67,108,864, `releases` of
-    /// a document above 50,000, or `items` above 5,000.
+    /// a document above 50,000, `items` above 5,000, or bytes of the `journal` above its limit.
     Limit { which: Text, number: u64 },
     /// The index document at this path is outside its grammar, at this line from 1.
     IndexRefused { file: Text, line: u64 },

@@ -23,4 +23,4 @@ pub use gather::{gather_base, gather_folder};
 pub use grouping::{items, one_order};
 pub use inputs::{Inputs, Picked, PickedDep, PickedFile, Planned};
 pub use item::Item;
-pub use planning::{one_refusal, plan_folder};
+pub use planning::{few_items, one_refusal, plan_folder};

@@ -37,8 +37,9 @@ fn all_updates(alloc: Global, picked: List<PickedFile>) -> Result<List<Update>, 
     Ok(List::new(updates))
 }
 
-// The items of the updates, of which there are not too many.
-fn few_items(alloc: Global, updates: List<Update>) -> Result<List<Item>, RunError>
+/// The items of a list of updates, as `items` gives them. `Limit` of the items exactly where they are
+/// more than 5,000. Else only memory can fail.
+pub fn few_items(alloc: Global, updates: List<Update>) -> Result<List<Item>, RunError>
     ensures few { IfOk result (AreFewItems updates) }
     ensures many { IfErr result (IfTold (HaveManyItems updates)) }
     ensures fault { result ≢ Err RunError.FolderFault }

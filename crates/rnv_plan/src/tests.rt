@@ -236,6 +236,7 @@ fn told(alloc: Global, error: RunError) -> Result<String, AllocError> {
     match error {
         RunError::Memory => String::from_str(alloc, "memory"),
         RunError::FolderFault => String::from_str(alloc, "fault"),
+        RunError::DiskFault => String::from_str(alloc, "disk"),
         RunError::UnknownRepo => String::from_str(alloc, "unknown"),
         RunError::NotBuilt { path } => {
             let path = path.as_str();
