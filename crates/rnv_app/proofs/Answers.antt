@@ -8,38 +8,79 @@ use Rattle.rnv_disk.specs.Stops.{Past}
 use Rattle.rnv_journal.specs.Readings.{KeepsReadings}
 use Rattle.rnv_commands.proofs.Stops.{or_import}
 use Rattle.rnv_plan.specs.declared.item.Item.{Item}
-use Rattle.rnv_plan.specs.Unbuilt.{IsPlanned, IsUnbuilt}
+use Rattle.rnv_plan.specs.declared.error.RunError.{RunError}
+use Rattle.rnv_plan.specs.declared.error.RunError.TheVariants as run
+use Rattle.rnv_plan.specs.Plan.{IsPlanned, IsPlanRefusal}
+use Rattle.rnv_plan.specs.Refusal.{IfTold}
+use Rattle.rnv_plan.proofs.Bases.{plan-one}
 use Rattle.rnv_commands.specs.declared.error.CommandError.{CommandError}
 use Rattle.rnv_commands.specs.declared.error.CommandError.TheVariants as command
 use Rattle.rnv_app.specs.declared.end.Refusal.{Refusal}
-use Rattle.rnv_app.specs.declared.end.Refusal.TheVariants.{Memory, Usage, UnknownRepo, FolderFault, DiskFault, NotAJournal, Limit, NotBuilt}
+use Rattle.rnv_app.specs.declared.end.Refusal.TheVariants.{Memory, Usage, UnknownRepo, FolderFault, DiskFault, NotAJournal, Limit, IndexRefused, NotBuilt}
 use Rattle.rnv_app.specs.declared.words.Words.{Words}
 use Rattle.rnv_app.specs.declared.words.WordsError.{WordsError}
 use Rattle.rnv_app.specs.declared.words.WordsError.TheVariants.{Usage as words_usage, Memory as words_memory}
 use Rattle.rnv_app.specs.Words.{IsCommand, IsImport, IsPlan, IsShow, IsUsage}
 use Rattle.rnv_app.specs.Text.{plan_text}
-use Rattle.rnv_app.specs.End.{code_of, not_built_text, refusal_of, IsLine, IsTold, IsUnbuiltStatus}
-use Rattle.rnv_app.specs.Top.{refusing, HasPlan, HasNoPlan, Imports, IsAnswered, IsBuilt, IsForImport, IsForNone, IsForPlan, IsForShow, IsImportEnd, IsNamed, IsNotBuilt, IsPlanRefusal, IsPrinted, IsPrintedInPart, IsShowEnd, IsShowing, Sight, Tells}
+use Rattle.rnv_app.specs.End.{code_of, plan_refusal_of, refusal_of, status_of, IsCause, IsCauseOr, IsLine, IsTold}
+use Rattle.rnv_app.specs.Top.{refusing, HasPlan, HasNoPlan, Imports, IsAnswered, IsForImport, IsForNone, IsForPlan, IsForShow, IsImportEnd, IsFree, IsNamed, IsOfPlan, IsPrinted, IsPrintedInPart, IsRefusedWith, IsShowEnd, IsShowing, Sight, Tells}
 use Rattle.rnv_app.proofs.Four.{one-repo}
-use Rattle.rnv_app.proofs.Ends.{Answer, done_at, not_built_at, part_at, usage_at}
+use Rattle.rnv_app.proofs.Ends.{Answer, done_at, part_at, usage_at}
 
-pub has_plan : (words : List (List ℕ)) (files : List NamedFile) (text repo : List ℕ) (now : ℕ) (items : List Item) → IsPlan words repo now → IsPlanned repo files items → ((path : List ℕ) → ¬ (IsUnbuilt repo files path)) → (time : List ℕ) × IsMomentText time now × (text ≡ plan_text time items) → HasPlan words files text
-has_plan words files text repo now items asked planned built printed = record {
+pub has_plan : (words : List (List ℕ)) (files : List NamedFile) (text repo : List ℕ) (now : ℕ) (items : List Item) → IsPlan words repo now → IsPlanned repo files items → ((error : RunError) → ¬ (IsPlanRefusal repo files error)) → (time : List ℕ) × IsMomentText time now × (text ≡ plan_text time items) → HasPlan words files text
+has_plan words files text repo now items asked planned free printed = record {
   repo = repo;
   now = now;
   asked = asked;
   items = items;
   planned = planned;
-  built = built;
+  free = free;
   time = printed.0;
   timed = printed.1;
   same = printed.2;
 }
 
 -- what all of the words and a plan of them say is one
-no_reason : (words : List (List ℕ)) (files : List NamedFile) (repo : List ℕ) (now : ℕ) → IsPlan words repo now → ((path : List ℕ) → ¬ (IsUnbuilt repo files path)) → (path : List ℕ) → ¬ (HasNoPlan words files path)
-no_reason words files repo now asked built path none =
-    built path (subst (λ (r : List ℕ). IsUnbuilt r files path) (one-repo words none.repo repo none.now now none.asked asked) none.unbuilt)
+no_cause : (words : List (List ℕ)) (files : List NamedFile) (repo : List ℕ) (now : ℕ) → IsPlan words repo now → ((error : RunError) → ¬ (IsPlanRefusal repo files error)) → (error : RunError) → ¬ (HasNoPlan words files error)
+no_cause words files repo now asked free error none =
+    free error (subst (λ (r : List ℕ). IsPlanRefusal r files error) (one-repo words none.repo repo none.now now none.asked asked) none.cause)
+
+one_cause : (words : List (List ℕ)) (files : List NamedFile) (e f : RunError) → HasNoPlan words files e → HasNoPlan words files f → e ≡ f
+one_cause words files e f a b =
+    plan-one b.repo files e f (subst (λ (r : List ℕ). IsPlanRefusal r files e) (one-repo words a.repo b.repo a.now b.now a.asked b.asked) a.cause) b.cause
+
+-- a status of one cause is that of the other
+or_one : (words : List (List ℕ)) (files : List NamedFile) (code : ℕ) (e f : RunError) → HasNoPlan words files e → HasNoPlan words files f → IsCauseOr (status_of e) code → IsCauseOr (status_of f) code
+or_one words files code e f a b this = subst (λ (g : RunError). IsCauseOr (status_of g) code) (one_cause words files e f a b) this
+
+-- the refusal of a plan
+
+pub refusal_tells : (words : List (List ℕ)) (files : List NamedFile) (repo : List ℕ) (now : ℕ) (error : RunError) → error ≢ run.DiskFault → IsPlan words repo now → IfTold (IsPlanRefusal repo files) error → Tells words files (Err (plan_refusal_of error))
+refusal_tells words files repo now run.Memory ne asked cause = tt
+refusal_tells words files repo now run.FolderFault ne asked cause = tt
+refusal_tells words files repo now run.DiskFault ne asked cause = absurd (ne refl)
+refusal_tells words files repo now run.UnknownRepo ne asked cause = record { repo = repo; now = now; asked = asked; cause = cause }
+refusal_tells words files repo now (run.NotBuilt path) ne asked cause = record { repo = repo; now = now; asked = asked; cause = cause }
+refusal_tells words files repo now (run.Limit which number) ne asked cause = record { repo = repo; now = now; asked = asked; cause = cause }
+refusal_tells words files repo now (run.IndexRefused file line) ne asked cause = record { repo = repo; now = now; asked = asked; cause = cause }
+
+pub refusal_plain : (error : RunError) → error ≢ run.DiskFault → IsOfPlan (plan_refusal_of error)
+refusal_plain run.Memory ne = tt
+refusal_plain run.FolderFault ne = tt
+refusal_plain run.DiskFault ne = absurd (ne refl)
+refusal_plain run.UnknownRepo ne = tt
+refusal_plain (run.NotBuilt path) ne = tt
+refusal_plain (run.Limit which number) ne = tt
+refusal_plain (run.IndexRefused file line) ne = tt
+
+pub plan_fault : (error : RunError) → plan_refusal_of error ≡ FolderFault → error ≡ run.FolderFault
+plan_fault run.Memory e = cc
+plan_fault run.FolderFault e = refl
+plan_fault run.DiskFault e = cc
+plan_fault run.UnknownRepo e = cc
+plan_fault (run.NotBuilt path) e = cc
+plan_fault (run.Limit which number) e = cc
+plan_fault (run.IndexRefused file line) e = cc
 
 -- words ask for one thing
 
@@ -63,6 +104,7 @@ IsOwn FolderFault = ⊥
 IsOwn DiskFault = ⊥
 IsOwn (NotAJournal offset) = ⊥
 IsOwn (Limit which number) = ⊥
+IsOwn (IndexRefused file line) = Unit {0}
 IsOwn (NotBuilt path) = Unit {0}
 
 not_own : (error : CommandError) → ¬ (IsOwn (refusal_of error))
@@ -120,7 +162,7 @@ module _ (s : Sight) (words : List (List ℕ)) (text : Answer) (answered : IsAns
       the (inr m) = m.0
 
   usage_then : text ≡ Err Usage → IsAnswered s words text → IsUsage words
-  usage_then e (inl p) = absurd (subst (λ (a : Answer). IfErr a IsPlanRefusal) e p.plain)
+  usage_then e (inl p) = absurd (subst (λ (a : Answer). IfErr a IsOfPlan) e p.plain)
   usage_then e (inr (inl i)) = absurd (own_never i.answer Usage tt (sym i.is ∙ e))
   usage_then e (inr (inr (inl i))) = absurd (own_never i.answer Usage tt (sym i.is ∙ e))
   usage_then e (inr (inr (inr n))) = none_then n.refused
@@ -139,16 +181,6 @@ module _ (s : Sight) (words : List (List ℕ)) (text : Answer) (answered : IsAns
       none_then (inl k) = k.0
       none_then (inr m) = absurd (m.1 u)
 
-  not_built_then : (path : List ℕ) → text ≡ Err (NotBuilt path) → s.folder_tells → IsAnswered s words text → HasNoPlan words s.files path
-  not_built_then path e t (inl p) = subst (Tells words s.files) e (p.told t)
-  not_built_then path e t (inr (inl i)) = absurd (own_never i.answer (NotBuilt path) tt (sym i.is ∙ e))
-  not_built_then path e t (inr (inr (inl i))) = absurd (own_never i.answer (NotBuilt path) tt (sym i.is ∙ e))
-  not_built_then path e t (inr (inr (inr n))) = none_then n.refused
-    where
-      none_then : ((text ≡ Err Usage) × IsUsage words) ⊎ ((text ≡ Err Memory) × ¬ (IsUsage words)) → HasNoPlan words s.files path
-      none_then (inl u) = absurd (omega (arith, one_refusal text (NotBuilt path) Usage e u.0))
-      none_then (inr m) = absurd (omega (arith, one_refusal text (NotBuilt path) Memory e m.0))
-
   module _ (tells : Type 0) (before after : List ℕ) (faults now : ℕ) (code : ℕ) (told : IsTold tells before after faults now text code) where
     pub usage_is : (code ≡ 2) ↔ IsUsage words
     usage_is = (
@@ -156,11 +188,52 @@ module _ (s : Sight) (words : List (List ℕ)) (text : Answer) (answered : IsAns
       λ u. (subst (λ (a : Answer). IsTold tells before after faults now a code) (usage_text u answered) told).status,
     )
 
-    pub not_built_is : s.folder_tells → code ≡ 15 → IsNotBuilt words s.files
-    not_built_is t e = let r = not_built_at tells before after faults now text code told e in (r.0, not_built_then r.0 r.1 t answered)
+    -- a status of a cause is none of these
+    never : (n : ℕ) → code ≡ n → IsCause code → IsCause n
+    never n e cause = subst IsCause e cause
 
-    pub named_is : s.folder_tells → tells → code ≡ 15 → IsNamed words s.files before after faults now
-    named_is t k e = let r = not_built_at tells before after faults now text code told e in record { path = r.0; plan = not_built_then r.0 r.1 t answered; line = r.2 k }
+    no_memory : text ≡ Err Memory → ¬ (IsCause code)
+    no_memory m cause = let at = never 1 (subst (λ (a : Answer). IsTold tells before after faults now a code) m told).status cause in absurd (cc at)
+
+    pub causes_is : (repo : List ℕ) (at : ℕ) → IsPlan words repo at → s.folder_tells → IsCause code → IsRefusedWith words s.files code
+    causes_is repo at asked t cause = the (plan_or_none repo at asked answered)
+      where
+        by_text : (a : Answer) → IsTold tells before after faults now a code → Tells words s.files a → IsRefusedWith words s.files code
+        by_text (Ok t') (inl w) plan = let not_so = never 0 w.status cause in absurd (cc not_so)
+        by_text (Ok t') (inr p) plan = let not_so = never 10 p.status cause in absurd (cc not_so)
+        by_text (Err Memory) d plan = let not_so = never 1 d.status cause in absurd (cc not_so)
+        by_text (Err Usage) d plan = absurd plan
+        by_text (Err UnknownRepo) d plan = record { error = run.UnknownRepo; plan = plan; status = sym d.status }
+        by_text (Err FolderFault) d plan = let not_so = never 5 d.status cause in absurd (cc not_so)
+        by_text (Err DiskFault) d plan = absurd plan
+        by_text (Err (NotAJournal offset)) d plan = absurd plan
+        by_text (Err (Limit which number)) d plan = record { error = run.Limit which number; plan = plan; status = sym d.status }
+        by_text (Err (IndexRefused file line)) d plan = record { error = run.IndexRefused file line; plan = plan; status = sym d.status }
+        by_text (Err (NotBuilt path)) d plan = record { error = run.NotBuilt path; plan = plan; status = sym d.status }
+
+        the : IsPlanOrNone → IsRefusedWith words s.files code
+        the (inl p) = by_text text told (p.told t)
+        the (inr m) = absurd (no_memory m.1 cause)
+
+    pub named_is : (repo : List ℕ) (at : ℕ) → IsPlan words repo at → s.folder_tells → tells → IsCause code → IsNamed words s.files before after faults now
+    named_is repo at asked t k cause = the (plan_or_none repo at asked answered)
+      where
+        by_text : (a : Answer) → IsTold tells before after faults now a code → Tells words s.files a → IsNamed words s.files before after faults now
+        by_text (Ok t') (inl w) plan = let not_so = never 0 w.status cause in absurd (cc not_so)
+        by_text (Ok t') (inr p) plan = let not_so = never 10 p.status cause in absurd (cc not_so)
+        by_text (Err Memory) d plan = let not_so = never 1 d.status cause in absurd (cc not_so)
+        by_text (Err Usage) d plan = absurd plan
+        by_text (Err UnknownRepo) d plan = record { error = run.UnknownRepo; plan = plan; line = d.line k }
+        by_text (Err FolderFault) d plan = let not_so = never 5 d.status cause in absurd (cc not_so)
+        by_text (Err DiskFault) d plan = absurd plan
+        by_text (Err (NotAJournal offset)) d plan = absurd plan
+        by_text (Err (Limit which number)) d plan = record { error = run.Limit which number; plan = plan; line = d.line k }
+        by_text (Err (IndexRefused file line)) d plan = record { error = run.IndexRefused file line; plan = plan; line = d.line k }
+        by_text (Err (NotBuilt path)) d plan = record { error = run.NotBuilt path; plan = plan; line = d.line k }
+
+        the : IsPlanOrNone → IsNamed words s.files before after faults now
+        the (inl p) = by_text text told (p.told t)
+        the (inr m) = absurd (no_memory m.1 cause)
 
     ok_not_memory : (t : List ℕ) → text ≡ Ok t → ¬ (text ≡ Err Memory)
     ok_not_memory t e m = absurd (omega (arith, ap count_text (sym e ∙ m)))
@@ -177,28 +250,32 @@ module _ (s : Sight) (words : List (List ℕ)) (text : Answer) (answered : IsAns
         let p = plan_of repo at asked (ok_not_memory d.0 d.1) in
         record { text = d.0; plan = subst (Tells words s.files) d.1 (p.told t); count = (d.3 k).0; written = (d.3 k).1 }
 
-    pub exactly_is : s.folder_tells → IsNotBuilt words s.files → IsUnbuiltStatus code
-    exactly_is t none = the text told (plan_or_none none.1.repo none.1.now none.1.asked answered) (λ p. p.told t)
+    pub exactly_is : s.folder_tells → (error : RunError) → HasNoPlan words s.files error → IsCauseOr (status_of error) code
+    exactly_is t error none = the (plan_or_none none.repo none.now none.asked answered)
       where
-        by_code : (n : ℕ) → code ≡ n → IsUnbuiltStatus n → IsUnbuiltStatus code
-        by_code n e h = subst IsUnbuiltStatus (sym e) h
+        by_code : (n : ℕ) → code ≡ n → IsCauseOr (status_of error) n → IsCauseOr (status_of error) code
+        by_code n e h = subst (IsCauseOr (status_of error)) (sym e) h
 
-        by_text : (a : Answer) → IsTold tells before after faults now a code → Tells words s.files a → IsUnbuiltStatus code
-        by_text (Ok t') d plan = absurd (no_reason words s.files plan.repo plan.now plan.asked plan.built none.0 none.1)
+        by_cause : (e : RunError) → code ≡ status_of e → HasNoPlan words s.files e → IsCauseOr (status_of e) (status_of e) → IsCauseOr (status_of error) code
+        by_cause e same plan this = or_one words s.files code e error plan none (subst (IsCauseOr (status_of e)) (sym same) this)
+
+        by_text : (a : Answer) → IsTold tells before after faults now a code → Tells words s.files a → IsCauseOr (status_of error) code
+        by_text (Ok t') d plan = absurd (no_cause words s.files plan.repo plan.now plan.asked plan.free error none)
         by_text (Err Memory) d plan = by_code 1 d.status refl
         by_text (Err Usage) d plan = absurd plan
-        by_text (Err UnknownRepo) d plan = absurd plan
+        by_text (Err UnknownRepo) d plan = by_cause run.UnknownRepo d.status plan refl
         by_text (Err FolderFault) d plan = by_code 5 d.status refl
         by_text (Err DiskFault) d plan = absurd plan
         by_text (Err (NotAJournal offset)) d plan = absurd plan
-        by_text (Err (Limit which number)) d plan = absurd plan
-        by_text (Err (NotBuilt path)) d plan = by_code 15 d.status refl
+        by_text (Err (Limit which number)) d plan = by_cause (run.Limit which number) d.status plan refl
+        by_text (Err (IndexRefused file line)) d plan = by_cause (run.IndexRefused file line) d.status plan refl
+        by_text (Err (NotBuilt path)) d plan = by_cause (run.NotBuilt path) d.status plan refl
 
-        the : (a : Answer) → IsTold tells before after faults now text code → IsPlanOrNone → (IsForPlan s words text → Tells words s.files text) → IsUnbuiltStatus code
-        the a d (inl p) tell = by_text text d (tell p)
-        the a d (inr m) tell = by_code 1 (subst (λ (b : Answer). IsTold tells before after faults now b code) m.1 d).status refl
+        the : IsPlanOrNone → IsCauseOr (status_of error) code
+        the (inl p) = by_text text told (p.told t)
+        the (inr m) = by_code 1 (subst (λ (b : Answer). IsTold tells before after faults now b code) m.1 told).status refl
 
-    pub complete_is : (first last : ℕ) → FaultsBy first last text FolderFault → s.folder_tells → IsBuilt words s.files → ¬ (Rose first last) → ¬ (Rose faults now) → (code ≡ 0) ⊎ (code ≡ 1)
+    pub complete_is : (first last : ℕ) → FaultsBy first last text FolderFault → s.folder_tells → IsFree words s.files → ¬ (Rose first last) → ¬ (Rose faults now) → (code ≡ 0) ⊎ (code ≡ 1)
     complete_is first last f t b quiet still = the (plan_or_none b.repo b.now b.asked answered)
       where
         by_text : (a : Answer) → IsTold tells before after faults now a code → Tells words s.files a → FaultsBy first last a FolderFault → (code ≡ 0) ⊎ (code ≡ 1)
@@ -206,12 +283,13 @@ module _ (s : Sight) (words : List (List ℕ)) (text : Answer) (answered : IsAns
         by_text (Ok t') (inr p) plan f' = absurd (still p.rose)
         by_text (Err Memory) d plan f' = inr d.status
         by_text (Err Usage) d plan f' = absurd plan
-        by_text (Err UnknownRepo) d plan f' = absurd plan
+        by_text (Err UnknownRepo) d plan f' = absurd (no_cause words s.files b.repo b.now b.asked b.free run.UnknownRepo plan)
         by_text (Err FolderFault) d plan f' = absurd (quiet (f'.failed refl))
         by_text (Err DiskFault) d plan f' = absurd plan
         by_text (Err (NotAJournal offset)) d plan f' = absurd plan
-        by_text (Err (Limit which number)) d plan f' = absurd plan
-        by_text (Err (NotBuilt path)) d plan f' = absurd (no_reason words s.files b.repo b.now b.asked b.built path plan)
+        by_text (Err (Limit which number)) d plan f' = absurd (no_cause words s.files b.repo b.now b.asked b.free (run.Limit which number) plan)
+        by_text (Err (IndexRefused file line)) d plan f' = absurd (no_cause words s.files b.repo b.now b.asked b.free (run.IndexRefused file line) plan)
+        by_text (Err (NotBuilt path)) d plan f' = absurd (no_cause words s.files b.repo b.now b.asked b.free (run.NotBuilt path) plan)
 
         the : IsPlanOrNone → (code ≡ 0) ⊎ (code ≡ 1)
         the (inl p) = by_text text told (p.told t) f
@@ -300,6 +378,6 @@ pub tells_of : (words : List (List ℕ)) (files : List NamedFile) (answer : Answ
 tells_of words files (Ok text) plan memory = plan
 tells_of words files (Err refusal) plan memory = subst (λ (r : Refusal). Tells words files (Err r)) (sym memory) tt
 
-pub plain_of : (answer : Answer) → IfErr answer (λ refusal. refusal ≡ Memory) → IfErr answer IsPlanRefusal
+pub plain_of : (answer : Answer) → IfErr answer (λ refusal. refusal ≡ Memory) → IfErr answer IsOfPlan
 plain_of (Ok text) memory = tt
-plain_of (Err refusal) memory = subst IsPlanRefusal (sym memory) tt
+plain_of (Err refusal) memory = subst IsOfPlan (sym memory) tt

@@ -4,7 +4,7 @@ use Rattle.std.specs.Option.{IfSome}
 use Rattle.std.proofs.Common.{◌≡◌, ◌≢◌, ◌⊎◌, inl, inr, ℕ, ◌≤◌, List, ◌++◌, take, Result, Ok, Err, IsErrOf, ◌↔◌, sym, subst, ◌∙◌, ap, refl, arith}
 use Rattle.rnv_base.specs.Causes.{Rose, FaultsBy}
 use Rattle.rnv_app.specs.declared.end.Refusal.{Refusal}
-use Rattle.rnv_app.specs.declared.end.Refusal.TheVariants.{Memory, Usage, UnknownRepo, FolderFault, DiskFault, NotAJournal, Limit, NotBuilt}
+use Rattle.rnv_app.specs.declared.end.Refusal.TheVariants.{Memory, Usage, UnknownRepo, FolderFault, DiskFault, NotAJournal, Limit, IndexRefused, NotBuilt}
 use Rattle.rnv_app.specs.End.{code_of, refusal_text, line_of, IsLine, IsStatus, IsTold, IsWritten, IsWrittenInPart, IsRefused}
 
 abbrev pub Answer : Type 0
@@ -18,6 +18,7 @@ refusal_status FolderFault = refl
 refusal_status DiskFault = refl
 refusal_status (NotAJournal offset) = refl
 refusal_status (Limit which number) = refl
+refusal_status (IndexRefused file at) = refl
 refusal_status (NotBuilt path) = refl
 
 never_zero : (refusal : Refusal) → ¬ (code_of refusal ≡ 0)
@@ -28,6 +29,7 @@ never_zero FolderFault e = absurd (omega (arith, e))
 never_zero DiskFault e = absurd (omega (arith, e))
 never_zero (NotAJournal offset) e = absurd (omega (arith, e))
 never_zero (Limit which number) e = absurd (omega (arith, e))
+never_zero (IndexRefused file at) e = absurd (omega (arith, e))
 never_zero (NotBuilt path) e = absurd (omega (arith, e))
 
 never_ten : (refusal : Refusal) → ¬ (code_of refusal ≡ 10)
@@ -38,6 +40,7 @@ never_ten FolderFault e = absurd (omega (arith, e))
 never_ten DiskFault e = absurd (omega (arith, e))
 never_ten (NotAJournal offset) e = absurd (omega (arith, e))
 never_ten (Limit which number) e = absurd (omega (arith, e))
+never_ten (IndexRefused file at) e = absurd (omega (arith, e))
 never_ten (NotBuilt path) e = absurd (omega (arith, e))
 
 only_2 : (refusal : Refusal) → code_of refusal ≡ 2 → refusal ≡ Usage
@@ -48,6 +51,7 @@ only_2 FolderFault e = absurd (omega (arith, e))
 only_2 DiskFault e = absurd (omega (arith, e))
 only_2 (NotAJournal offset) e = absurd (omega (arith, e))
 only_2 (Limit which number) e = absurd (omega (arith, e))
+only_2 (IndexRefused file at) e = absurd (omega (arith, e))
 only_2 (NotBuilt path) e = absurd (omega (arith, e))
 
 only_5 : (refusal : Refusal) → code_of refusal ≡ 5 → refusal ≡ FolderFault
@@ -58,6 +62,7 @@ only_5 FolderFault e = refl
 only_5 DiskFault e = absurd (omega (arith, e))
 only_5 (NotAJournal offset) e = absurd (omega (arith, e))
 only_5 (Limit which number) e = absurd (omega (arith, e))
+only_5 (IndexRefused file at) e = absurd (omega (arith, e))
 only_5 (NotBuilt path) e = absurd (omega (arith, e))
 
 only_7 : (refusal : Refusal) → code_of refusal ≡ 7 → refusal ≡ DiskFault
@@ -68,17 +73,8 @@ only_7 FolderFault e = absurd (omega (arith, e))
 only_7 DiskFault e = refl
 only_7 (NotAJournal offset) e = absurd (omega (arith, e))
 only_7 (Limit which number) e = absurd (omega (arith, e))
+only_7 (IndexRefused file at) e = absurd (omega (arith, e))
 only_7 (NotBuilt path) e = absurd (omega (arith, e))
-
-only_15 : (refusal : Refusal) → code_of refusal ≡ 15 → (path : List ℕ) × (refusal ≡ NotBuilt path)
-only_15 Memory e = absurd (omega (arith, e))
-only_15 Usage e = absurd (omega (arith, e))
-only_15 UnknownRepo e = absurd (omega (arith, e))
-only_15 FolderFault e = absurd (omega (arith, e))
-only_15 DiskFault e = absurd (omega (arith, e))
-only_15 (NotAJournal offset) e = absurd (omega (arith, e))
-only_15 (Limit which number) e = absurd (omega (arith, e))
-only_15 (NotBuilt path) e = (path, refl)
 
 module _ (tells : Type 0) (before after : List ℕ) (faults now : ℕ) where
   abbrev pub Told : Answer → ℕ → Type 0
@@ -107,12 +103,6 @@ module _ (tells : Type 0) (before after : List ℕ) (faults now : ℕ) where
   pub disk_at : (answer : Answer) (code : ℕ) → Told answer code → code ≡ 7 → answer ≡ Err DiskFault
   disk_at answer code told e = let r = refused_at answer code 7 told e (λ k. absurd (omega (arith, k))) (λ k. absurd (omega (arith, k))) in r.1 ∙ ap Err (only_7 r.0 r.2)
 
-  pub not_built_at : (answer : Answer) (code : ℕ) → Told answer code → code ≡ 15 → (path : List ℕ) × (answer ≡ Err (NotBuilt path)) × (tells → Line (refusal_text (NotBuilt path)))
-  not_built_at answer code told e =
-      let r = refused_at answer code 15 told e (λ k. absurd (omega (arith, k))) (λ k. absurd (omega (arith, k))) in
-      let p = only_15 r.0 r.2 in
-      (p.0, r.1 ∙ ap Err p.1, subst (λ (x : Refusal). tells → Line (refusal_text x)) p.1 r.3)
-
   pub done_at : (answer : Answer) (code : ℕ) → Told answer code → code ≡ 0 → (text : List ℕ) × (answer ≡ Ok text) × (tells → after ≡ before ++ text)
   done_at (Ok text) code (inl w) e = (text, refl, w.whole)
   done_at (Ok text) code (inr p) e = absurd (omega (arith, e, p.status))
@@ -131,6 +121,7 @@ module _ (tells : Type 0) (before after : List ℕ) (faults now : ℕ) where
   line_at DiskFault line = line
   line_at (NotAJournal offset) line = tt
   line_at (Limit which number) line = tt
+  line_at (IndexRefused file at) line = tt
   line_at (NotBuilt path) line = tt
 
   pub refused_line : (answer : Answer) (code : ℕ) → Told answer code → tells → IfSome (line_of code) Line

@@ -4,9 +4,11 @@ use Rattle.std.specs.Fmt.{decimal}
 use Rattle.std.specs.List.{list_any}
 use Rattle.rnv_base.specs.Causes.{Rose}
 use Rattle.rnv_app.specs.declared.end.Refusal.{Refusal}
-use Rattle.rnv_app.specs.declared.end.Refusal.TheVariants.{Memory, Usage, UnknownRepo, FolderFault, DiskFault, NotAJournal, Limit, NotBuilt}
+use Rattle.rnv_app.specs.declared.end.Refusal.TheVariants.{Memory, Usage, UnknownRepo, FolderFault, DiskFault, NotAJournal, Limit, IndexRefused, NotBuilt}
 use Rattle.rnv_commands.specs.declared.error.CommandError.{CommandError}
 use Rattle.rnv_commands.specs.declared.error.CommandError.TheVariants as command
+use Rattle.rnv_plan.specs.declared.error.RunError.{RunError}
+use Rattle.rnv_plan.specs.declared.error.RunError.TheVariants as run
 
 -- the status of a refusal
 abbrev pub code_of : Refusal → ℕ
@@ -17,6 +19,7 @@ code_of FolderFault = 5
 code_of DiskFault = 7
 code_of (NotAJournal offset) = 8
 code_of (Limit which number) = 11
+code_of (IndexRefused file line) = 13
 code_of (NotBuilt path) = 15
 
 -- the refusal of a command over the store
@@ -27,6 +30,19 @@ refusal_of command.FolderFault = FolderFault
 refusal_of command.DiskFault = DiskFault
 refusal_of (command.NotAJournal offset) = NotAJournal offset
 refusal_of (command.Limit which number) = Limit which number
+
+-- the refusal of a plan, and its status
+abbrev pub plan_refusal_of : RunError → Refusal
+plan_refusal_of run.Memory = Memory
+plan_refusal_of run.FolderFault = FolderFault
+plan_refusal_of run.DiskFault = DiskFault
+plan_refusal_of run.UnknownRepo = UnknownRepo
+plan_refusal_of (run.Limit which number) = Limit which number
+plan_refusal_of (run.IndexRefused file line) = IndexRefused file line
+plan_refusal_of (run.NotBuilt path) = NotBuilt path
+
+abbrev pub status_of : RunError → ℕ
+status_of error = code_of (plan_refusal_of error)
 
 abbrev pub not_yet : List ℕ
 not_yet = codes " is not built yet" ++ 10 ∷ []
@@ -39,6 +55,9 @@ damaged_text offset = codes "error 8: not a journal at " ++ (decimal offset ++ 1
 
 abbrev pub above_text : List ℕ → ℕ → List ℕ
 above_text which number = codes "error 11: more than " ++ (decimal number ++ (codes " " ++ (which ++ 10 ∷ [])))
+
+abbrev pub index_text : List ℕ → ℕ → List ℕ
+index_text file line = codes "error 13: " ++ (file ++ (codes " line " ++ (decimal line ++ 10 ∷ [])))
 
 abbrev pub memory_line : List ℕ
 memory_line = codes "error 1: out of memory" ++ 10 ∷ []
@@ -64,15 +83,20 @@ refusal_text FolderFault = folder_line
 refusal_text DiskFault = disk_line
 refusal_text (NotAJournal offset) = damaged_text offset
 refusal_text (Limit which number) = above_text which number
+refusal_text (IndexRefused file line) = index_text file line
 refusal_text (NotBuilt path) = not_built_text path
 
 -- the statuses that there are
 abbrev pub IsStatus : ℕ → Type 0
-IsStatus code = list_any (λ s. s == code) (0 ∷ 1 ∷ 2 ∷ 3 ∷ 5 ∷ 7 ∷ 8 ∷ 10 ∷ 11 ∷ 15 ∷ []) ≡ true
+IsStatus code = list_any (λ s. s == code) (0 ∷ 1 ∷ 2 ∷ 3 ∷ 5 ∷ 7 ∷ 8 ∷ 10 ∷ 11 ∷ 13 ∷ 15 ∷ []) ≡ true
 
--- the statuses of a plan that is not built yet: 15, unless memory runs out or the folder fails before
-abbrev pub IsUnbuiltStatus : ℕ → Type 0
-IsUnbuiltStatus code = list_any (λ s. s == code) (1 ∷ 5 ∷ 15 ∷ []) ≡ true
+-- the statuses of a plan that have a cause in the folder's files
+abbrev pub IsCause : ℕ → Type 0
+IsCause code = list_any (λ s. s == code) (3 ∷ 11 ∷ 13 ∷ 15 ∷ []) ≡ true
+
+-- this status, unless memory runs out or the folder fails before
+abbrev pub IsCauseOr : ℕ → ℕ → Type 0
+IsCauseOr status code = list_any (λ s. s == code) (1 ∷ 5 ∷ status ∷ []) ≡ true
 
 -- the line of a status that names nothing
 abbrev pub line_of : ℕ → Option (List ℕ)

@@ -8,12 +8,14 @@ use Rattle.rnv_commands.specs.declared.error.CommandError.TheVariants.{DiskFault
 use Rattle.rnv_disk.specs.Stops.{Past}
 use Rattle.rnv_journal.specs.Readings.{HasReadingsNow, KeepsReadings, ReadsOnly}
 use Rattle.rnv_plan.specs.declared.item.Item.{Item}
-use Rattle.rnv_plan.specs.Unbuilt.{IsPlanned, IsUnbuilt}
+use Rattle.rnv_plan.specs.declared.error.RunError.{RunError}
+use Rattle.rnv_plan.specs.declared.error.RunError.TheVariants as run
+use Rattle.rnv_plan.specs.Plan.{IsPlanned, IsPlanRefusal}
 use Rattle.rnv_app.specs.declared.end.Refusal.{Refusal}
-use Rattle.rnv_app.specs.declared.end.Refusal.TheVariants.{Memory, Usage, UnknownRepo, FolderFault, DiskFault, NotAJournal, Limit, NotBuilt}
+use Rattle.rnv_app.specs.declared.end.Refusal.TheVariants.{Memory, Usage, UnknownRepo, FolderFault, DiskFault, NotAJournal, Limit, IndexRefused, NotBuilt}
 use Rattle.rnv_app.specs.Words.{IsImport, IsPlan, IsShow, IsUsage}
 use Rattle.rnv_app.specs.Text.{plan_text}
-use Rattle.rnv_app.specs.End.{not_built_text, refusal_of, IsLine, IsTold}
+use Rattle.rnv_app.specs.End.{plan_refusal_of, refusal_of, refusal_text, status_of, IsLine, IsTold}
 
 -- plan
 
@@ -24,40 +26,42 @@ pub record HasPlan (words : List (List ℕ)) (files : List NamedFile) (text : Li
   pub asked : IsPlan words repo now
   pub items : List Item
   pub planned : IsPlanned repo files items
-  pub built : (path : List ℕ) → ¬ (IsUnbuilt repo files path)
+  pub free : (error : RunError) → ¬ (IsPlanRefusal repo files error)
   pub time : List ℕ
   pub timed : IsMomentText time now
   pub same : text ≡ plan_text time items
 
--- the words ask for a plan, which is not built yet: what stands at this path is a reason
-pub record HasNoPlan (words : List (List ℕ)) (files : List NamedFile) (path : List ℕ) : Type 0 where
+-- the words ask for a plan, for which the files are the cause of this refusal
+pub record HasNoPlan (words : List (List ℕ)) (files : List NamedFile) (error : RunError) : Type 0 where
   pub repo : List ℕ
   pub now : ℕ
   pub asked : IsPlan words repo now
-  pub unbuilt : IsUnbuilt repo files path
+  pub cause : IsPlanRefusal repo files error
 
 -- what the text of a plan, or its refusal, tells of the words and the files
 abbrev pub Tells : List (List ℕ) → List NamedFile → Result (List ℕ) Refusal → Type 0
 Tells words files (Ok text) = HasPlan words files text
 Tells words files (Err Memory) = Unit {0}
 Tells words files (Err Usage) = ⊥
-Tells words files (Err UnknownRepo) = ⊥
+Tells words files (Err UnknownRepo) = HasNoPlan words files run.UnknownRepo
 Tells words files (Err FolderFault) = Unit {0}
 Tells words files (Err DiskFault) = ⊥
 Tells words files (Err (NotAJournal offset)) = ⊥
-Tells words files (Err (Limit which number)) = ⊥
-Tells words files (Err (NotBuilt path)) = HasNoPlan words files path
+Tells words files (Err (Limit which number)) = HasNoPlan words files (run.Limit which number)
+Tells words files (Err (IndexRefused file line)) = HasNoPlan words files (run.IndexRefused file line)
+Tells words files (Err (NotBuilt path)) = HasNoPlan words files (run.NotBuilt path)
 
--- the refusals of a plan
-abbrev pub IsPlanRefusal : Refusal → Type 0
-IsPlanRefusal Memory = Unit {0}
-IsPlanRefusal Usage = ⊥
-IsPlanRefusal UnknownRepo = ⊥
-IsPlanRefusal FolderFault = Unit {0}
-IsPlanRefusal DiskFault = ⊥
-IsPlanRefusal (NotAJournal offset) = ⊥
-IsPlanRefusal (Limit which number) = ⊥
-IsPlanRefusal (NotBuilt path) = Unit {0}
+-- the refusals that a plan has
+abbrev pub IsOfPlan : Refusal → Type 0
+IsOfPlan Memory = Unit {0}
+IsOfPlan Usage = ⊥
+IsOfPlan UnknownRepo = Unit {0}
+IsOfPlan FolderFault = Unit {0}
+IsOfPlan DiskFault = ⊥
+IsOfPlan (NotAJournal offset) = ⊥
+IsOfPlan (Limit which number) = Unit {0}
+IsOfPlan (IndexRefused file line) = Unit {0}
+IsOfPlan (NotBuilt path) = Unit {0}
 
 -- the whole text was written
 pub record IsPrinted (words : List (List ℕ)) (files : List NamedFile) (before after : List ℕ) : Type 0 where
@@ -72,22 +76,24 @@ pub record IsPrintedInPart (words : List (List ℕ)) (files : List NamedFile) (b
   pub count : ℕ
   pub written : after ≡ before ++ take count text
 
--- the words ask for a plan that is not built yet
-abbrev pub IsNotBuilt : List (List ℕ) → List NamedFile → Type 0
-IsNotBuilt words files = (path : List ℕ) × HasNoPlan words files path
+-- the words ask for a plan, for which the files are the cause of a refusal with this status
+pub record IsRefusedWith (words : List (List ℕ)) (files : List NamedFile) (code : ℕ) : Type 0 where
+  pub error : RunError
+  pub plan : HasNoPlan words files error
+  pub status : status_of error ≡ code
 
--- the words ask for a plan, and nothing is a reason for which it is not built
-pub record IsBuilt (words : List (List ℕ)) (files : List NamedFile) : Type 0 where
+-- the words ask for a plan, and the files are the cause of no refusal
+pub record IsFree (words : List (List ℕ)) (files : List NamedFile) : Type 0 where
   pub repo : List ℕ
   pub now : ℕ
   pub asked : IsPlan words repo now
-  pub built : (path : List ℕ) → ¬ (IsUnbuilt repo files path)
+  pub free : (error : RunError) → ¬ (IsPlanRefusal repo files error)
 
--- the line was written that names the path of a reason, as far as the output took it
+-- the line of that refusal was written, as far as the output took it
 pub record IsNamed (words : List (List ℕ)) (files : List NamedFile) (before after : List ℕ) (faults now : ℕ) : Type 0 where
-  pub path : List ℕ
-  pub plan : HasNoPlan words files path
-  pub line : IsLine before after faults now (not_built_text path)
+  pub error : RunError
+  pub plan : HasNoPlan words files error
+  pub line : IsLine before after faults now (refusal_text (plan_refusal_of error))
 
 -- import and show
 
@@ -141,7 +147,7 @@ pub record IsForPlan (s : Sight) (words : List (List ℕ)) (text : Result (List 
   pub now : ℕ
   pub asked : IsPlan words repo now
   pub same : s.same_disk
-  pub plain : IfErr text IsPlanRefusal
+  pub plain : IfErr text IsOfPlan
   pub told : s.folder_tells → Tells words s.files text
 
 pub record IsForImport (s : Sight) (words : List (List ℕ)) (text : Result (List ℕ) Refusal) : Type 0 where

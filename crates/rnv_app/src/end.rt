@@ -1,8 +1,9 @@
 ghost use Rattle.std.specs.Prelude.{◌≡◌};
-ghost use Rattle.rnv_app.specs.End.{code_of, refusal_of};
+ghost use Rattle.rnv_app.specs.End.{code_of, plan_refusal_of, refusal_of};
 
 use rnv_base::Text;
 use rnv_commands::CommandError;
+use rnv_plan::RunError;
 
 /// Why the program printed nothing but this.
 #[derive(Debug, Drop)]
@@ -11,7 +12,7 @@ pub enum Refusal {
     Memory,
     /// The words are not of a form that the program takes.
     Usage,
-    /// The store, or for an import the folder, has no such repository.
+    /// The store, or for an import or a plan the folder, has no such repository.
     UnknownRepo,
     /// The folder failed, and has counted the fault.
     FolderFault,
@@ -21,6 +22,8 @@ pub enum Refusal {
     NotAJournal { offset: u64 },
     /// A quantity is above its limit.
     Limit { which: Text, number: u64 },
+    /// The index document at this path is outside its grammar, at this line from 1.
+    IndexRefused { file: Text, line: u64 },
     /// What stands at this path is not built yet.
     NotBuilt { path: Text },
 }
@@ -40,6 +43,7 @@ pub fn code(refusal: &Refusal) -> u8
             which: _,
             number: _,
         } => 11,
+        Refusal::IndexRefused { file: _, line: _ } => 13,
         Refusal::NotBuilt { path: _ } => 15,
     }
 }
@@ -55,5 +59,20 @@ pub fn refusal_of(error: CommandError) -> Refusal
         CommandError::DiskFault => Refusal::DiskFault,
         CommandError::NotAJournal { offset } => Refusal::NotAJournal { offset },
         CommandError::Limit { which, number } => Refusal::Limit { which, number },
+    }
+}
+
+/// The refusal of a plan.
+pub fn plan_refusal_of(error: RunError) -> Refusal
+    ensures { result ≡ plan_refusal_of error }
+{
+    match error {
+        RunError::Memory => Refusal::Memory,
+        RunError::FolderFault => Refusal::FolderFault,
+        RunError::DiskFault => Refusal::DiskFault,
+        RunError::UnknownRepo => Refusal::UnknownRepo,
+        RunError::Limit { which, number } => Refusal::Limit { which, number },
+        RunError::IndexRefused { file, line } => Refusal::IndexRefused { file, line },
+        RunError::NotBuilt { path } => Refusal::NotBuilt { path },
     }
 }

@@ -1,6 +1,6 @@
 ghost use Rattle.std.specs.Prelude.{◌≡◌, ◌≤◌, ◌++◌, ◌∷◌, ℕ, [], codes};
 ghost use Rattle.std.specs.Fmt.{decimal};
-ghost use Rattle.rnv_app.specs.End.{IsLine, IsTold, above_text, damaged_text, not_built_text, refusal_text};
+ghost use Rattle.rnv_app.specs.End.{IsLine, IsTold, above_text, damaged_text, index_text, not_built_text, refusal_text};
 
 use crate::Refusal;
 use crate::end::code;
@@ -39,6 +39,7 @@ fn report<K: Sink>(out: &mut K, refusal: &Refusal)
         Refusal::DiskFault => write_line(out, b"error 7: disk fault\n"),
         Refusal::NotAJournal { offset } => write_damaged(out, *offset),
         Refusal::Limit { which, number } => write_above(out, which.as_str().as_bytes(), *number),
+        Refusal::IndexRefused { file, line } => write_index(out, file.as_str().as_bytes(), *line),
         Refusal::NotBuilt { path } => write_not_built(out, path.as_str().as_bytes()),
     }
 }
@@ -114,6 +115,30 @@ fn write_limit<K: Sink>(out: &mut K, which: &[u8], number: u64)
     let digits = buffer.format(number);
     match write_all(out, digits.as_bytes()) {
         Ok(()) => write_three(out, b" ", which, b"\n"),
+        Err(_) => {}
+    }
+}
+
+// Writes the line of an index document outside its grammar.
+fn write_index<K: Sink>(out: &mut K, file: &[u8], line: u64)
+    ensures line { K.tells → IsLine (K.held out.old) (K.held out.new) (K.faults out.old) (K.faults out.new) (index_text file.now line) }
+    ensures later { K.faults out.old ≤ K.faults out.new }
+{
+    match write_all(out, b"error 13: ") {
+        Ok(()) => write_place(out, file, line),
+        Err(_) => {}
+    }
+}
+
+// Writes what stands behind the first words of that line.
+fn write_place<K: Sink>(out: &mut K, file: &[u8], line: u64)
+    ensures line { K.tells → IsLine (K.held out.old) (K.held out.new) (K.faults out.old) (K.faults out.new) (file.now ++ (codes " line " ++ (decimal line ++ 10 ∷ []))) }
+    ensures later { K.faults out.old ≤ K.faults out.new }
+{
+    let mut buffer = Buffer::new();
+    let digits = buffer.format(line);
+    match write_all(out, file) {
+        Ok(()) => write_three(out, b" line ", digits.as_bytes(), b"\n"),
         Err(_) => {}
     }
 }

@@ -31,6 +31,8 @@ const NO_PLAN: &str = "now 2024-06-03T10:15:00Z\n0 updates, 0 branches\n";
 
 const NOT_BUILT: &str = "error 15: package.json is not built yet\n";
 
+const UNKNOWN: &str = "error 3: unknown repository\n";
+
 // The words between the spaces of a line.
 fn words(alloc: Global, line: &str) -> Result<List<Text>, AllocError> {
     let mut words = List::empty(alloc);
@@ -86,7 +88,7 @@ fn failing(
 }
 
 // The files, the status, and what is printed.
-const PLANS: [(&[File], u8, &str); 16] = [
+const PLANS: [(&[File], u8, &str); 17] = [
     (&[LEFT_PAD, REACT, TWO], 0, TWO_PLAN),
     (
         &[
@@ -159,8 +161,8 @@ const PLANS: [(&[File], u8, &str); 16] = [
     (&[TWO], 0, NO_PLAN),
     (
         &[LEFT_PAD, ("index/npm/react.json", "{}"), TWO],
-        15,
-        "error 15: index/npm/react.json is not built yet\n",
+        13,
+        "error 13: index/npm/react.json line 1\n",
     ),
     (
         &[
@@ -168,21 +170,34 @@ const PLANS: [(&[File], u8, &str); 16] = [
             ("index/npm/react.json", "{}"),
             TWO,
         ],
-        15,
-        "error 15: index/npm/left-pad.json is not built yet\n",
+        13,
+        "error 13: index/npm/left-pad.json line 1\n",
     ),
-    // Two files in the repository, another repository's file alone, and no file at all.
+    // Another manager's file, another repository's file alone, and no file at all.
     (
         &[REACT, ("repos/acme/web/Cargo.toml", ""), TWO],
         15,
-        NOT_BUILT,
+        "error 15: Cargo.toml is not built yet\n",
     ),
     (
         &[REACT, ("repos/acme/other/package.json", "{}")],
-        15,
-        NOT_BUILT,
+        3,
+        UNKNOWN,
     ),
-    (&[], 15, NOT_BUILT),
+    (&[], 3, UNKNOWN),
+    // A file in a folder, and one that is passed over.
+    (
+        &[
+            ("index/npm/a.json", "{\"versions\":{\"1.2.0\":{}}}"),
+            ("repos/acme/web/README.md", "a"),
+            (
+                "repos/acme/web/site/package.json",
+                "{\"dependencies\":{\"a\":\"1.0.0\"}}",
+            ),
+        ],
+        0,
+        "now 2024-06-03T10:15:00Z\nsite/package.json a 1.0.0 -> 1.2.0 (minor) renovate/a-1.x\n1 updates, 1 branches\n",
+    ),
     // One package at two places, with two values.
     (
         &[
@@ -256,13 +271,11 @@ fn tells_faults(rt: HostRuntime) -> Result<(), Fail> {
             "at call {call}"
         );
     }
-    let second: &[u64] = &[1];
     for (line, writes, reads, code, text) in [
         (PLAN, first, none, 10, ""),
         (PLAN, first, first, 5, ""),
         ("show", first, none, 2, ""),
-        (NO_FILE, first, none, 15, ""),
-        (NO_FILE, second, none, 15, "error 15: "),
+        (NO_FILE, first, none, 3, ""),
     ] {
         let ended = failing(rt.alloc(), line, writes, reads)?;
         assert_eq!(rt; ended.status.code, code, "at {line}");

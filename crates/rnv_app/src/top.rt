@@ -1,21 +1,22 @@
 ghost use Rattle.std.specs.Prelude.{◌≡◌, ◌↔◌, ◌⊎◌, ◌≤◌, ℕ, List as Items, Result, IfOk, IfErr, IfSome};
 ghost use Rattle.rnv_base.specs.Causes.{Rose, FaultsBy};
 ghost use Rattle.rnv_base.specs.Files.{NamedFile};
-ghost use Rattle.rnv_app.specs.End.{line_of, IsLine, IsStatus, IsTold, IsUnbuiltStatus};
-ghost use Rattle.rnv_app.specs.Top.{refusing, HasPlan, IsAnswered, IsBuilt, IsForImport, IsForShow, IsImportEnd, IsNamed, IsNotBuilt, IsPlanRefusal, IsPrinted, IsPrintedInPart, IsShowEnd, Tells};
+ghost use Rattle.rnv_app.specs.End.{line_of, status_of, IsCause, IsCauseOr, IsLine, IsStatus, IsTold};
+ghost use Rattle.rnv_app.specs.Top.{refusing, HasNoPlan, HasPlan, IsAnswered, IsForImport, IsForShow, IsFree, IsImportEnd, IsNamed, IsOfPlan, IsPrinted, IsPrintedInPart, IsRefusedWith, IsShowEnd, Tells};
 ghost use Rattle.rnv_app.specs.Words.{IsImport, IsPlan, IsShow, IsUsage};
 ghost use Rattle.rnv_app.specs.declared.end.Refusal.{Refusal as Cause};
 ghost use Rattle.rnv_app.specs.declared.end.Refusal.TheVariants.{DiskFault as disk_fault, FolderFault as folder_fault, Memory as no_memory};
-ghost use Rattle.rnv_plan.specs.Unbuilt.{IsPlanned, IsUnbuilt};
+ghost use Rattle.rnv_plan.specs.declared.error.RunError.{RunError as Error};
+ghost use Rattle.rnv_plan.specs.Plan.{IsPlanned, IsPlanRefusal};
 
-use crate::end::refusal_of;
+use crate::end::{plan_refusal_of, refusal_of};
 use crate::plan_text::plan_text;
 use crate::report::tell;
 use crate::{Refusal, Words, WordsError};
 use rnv_base::{Folder, List, Sink, Text};
 use rnv_commands::{Answer, CommandError, import_on, show_on};
 use rnv_disk::Disk;
-use rnv_plan::{Item, RunError, plan_folder};
+use rnv_plan::{Item, plan_folder};
 use std::alloc::Global;
 use std::convert::AsStr;
 
@@ -28,7 +29,8 @@ pub struct Outside<K: Sink, O: Folder, D: Disk> {
 }
 
 /// The status of the program: 0 all done and printed, 1 out of memory, 2 usage, 3 unknown repository,
-/// 5 folder fault, 7 disk fault, 8 not a journal, 10 write fault, 11 above a limit, 15 not built yet.
+/// 5 folder fault, 7 disk fault, 8 not a journal, 10 write fault, 11 above a limit, 13 an index document
+/// outside its grammar, 15 not built yet.
 #[derive(Clone, Copy, Debug, PartialEq, Eq)]
 pub struct Status {
     pub code: u8,
@@ -61,18 +63,19 @@ pub fn renovate<K: Sink, O: Folder, D: Disk>(
     ensures disk_fault { result.status.code ≡ 7 → Rose (D.faults outside.disk) (D.faults result.outside.disk) }
     ensures write_fault { result.status.code ≡ 10 → Rose (K.faults outside.out) (K.faults result.outside.out) }
 
-    // A plan that is not built yet: the reason, and all such reasons but for want of memory or a fault.
-    ensures not_built { O.tells → result.status.code ≡ 15 → IsNotBuilt words.now (O.files outside.folder) }
-    ensures exactly { O.tells → IsNotBuilt words.now (O.files outside.folder) → IsUnbuiltStatus result.status.code }
+    // The cause of a plan's 3, 11, 13 and 15 in the folder's files, and each such cause but for want of memory or a
+    // fault.
+    ensures causes { (repo : Items ℕ) (now : ℕ) → IsPlan words.now repo now → O.tells → IsCause result.status.code → IsRefusedWith words.now (O.files outside.folder) result.status.code }
+    ensures exactly { O.tells → (error : Error) → HasNoPlan words.now (O.files outside.folder) error → IsCauseOr (status_of error) result.status.code }
 
-    // What a plan that is built answers where nothing fails.
-    ensures complete { O.tells → IsBuilt words.now (O.files outside.folder) → ¬ Rose (O.faults outside.folder) (O.faults result.outside.folder) → ¬ Rose (K.faults outside.out) (K.faults result.outside.out) → (result.status.code ≡ 0) ⊎ (result.status.code ≡ 1) }
+    // What a plan without such a cause answers where nothing fails.
+    ensures complete { O.tells → IsFree words.now (O.files outside.folder) → ¬ Rose (O.faults outside.folder) (O.faults result.outside.folder) → ¬ Rose (K.faults outside.out) (K.faults result.outside.out) → (result.status.code ≡ 0) ⊎ (result.status.code ≡ 1) }
 
     // What is written of a plan: the whole text, a front part of it, or the refusal's line, whole where the output
     // took it, and else a front part of it. The disk is not touched.
     ensures printed { (repo : Items ℕ) (now : ℕ) → IsPlan words.now repo now → O.tells → K.tells → result.status.code ≡ 0 → IsPrinted words.now (O.files outside.folder) (K.held outside.out) (K.held result.outside.out) }
     ensures in_part { (repo : Items ℕ) (now : ℕ) → IsPlan words.now repo now → O.tells → K.tells → result.status.code ≡ 10 → IsPrintedInPart words.now (O.files outside.folder) (K.held outside.out) (K.held result.outside.out) }
-    ensures named { O.tells → K.tells → result.status.code ≡ 15 → IsNamed words.now (O.files outside.folder) (K.held outside.out) (K.held result.outside.out) (K.faults outside.out) (K.faults result.outside.out) }
+    ensures named { (repo : Items ℕ) (now : ℕ) → IsPlan words.now repo now → O.tells → K.tells → IsCause result.status.code → IsNamed words.now (O.files outside.folder) (K.held outside.out) (K.held result.outside.out) (K.faults outside.out) (K.faults result.outside.out) }
     ensures refused { K.tells → IfSome (line_of result.status.code) (IsLine (K.held outside.out) (K.held result.outside.out) (K.faults outside.out) (K.faults result.outside.out)) }
     ensures plan_alone { (repo : Items ℕ) (now : ℕ) → IsPlan words.now repo now → result.outside.disk ≡ outside.disk }
 
@@ -210,16 +213,14 @@ fn plan_for<O: Folder>(
 ) -> Result<List<u8>, Refusal>
     requires { IsPlan words.now repo.now now }
     ensures asked { IsPlan words.now repo.now now }
-    ensures plain { IfErr result IsPlanRefusal }
+    ensures plain { IfErr result IsOfPlan }
     ensures told { O.tells → Tells words.now (O.files folder.old) result }
     ensures same { O.tells → (O.files folder.new ≡ O.files folder.old) }
     ensures cause { FaultsBy (O.faults folder.old) (O.faults folder.new) result folder_fault }
 {
-    match plan_folder(alloc, folder, repo) {
+    match plan_folder(alloc, folder, repo, now) {
         Ok(items) => text_for(alloc, words, repo, now, &items),
-        Err(RunError::Memory) => Err(Refusal::Memory),
-        Err(RunError::FolderFault) => Err(Refusal::FolderFault),
-        Err(RunError::NotBuilt { path }) => Err(Refusal::NotBuilt { path }),
+        Err(error) => Err(plan_refusal_of(error)),
     }
 }
 
@@ -232,7 +233,7 @@ fn text_for(
     items: &List<Item>,
 ) -> Result<List<u8>, Refusal>
     requires { IsPlan words.now repo.now now }
-    ensures plan { (files : Items NamedFile) → IsPlanned repo.now files items.now → ((path : Items ℕ) → ¬ IsUnbuilt repo.now files path) → IfOk result (HasPlan words.now files) }
+    ensures plan { (files : Items NamedFile) → IsPlanned repo.now files items.now → ((error : Error) → ¬ IsPlanRefusal repo.now files error) → IfOk result (HasPlan words.now files) }
     ensures memory { IfErr result (λ refusal. refusal ≡ no_memory) }
 {
     let _ = words;

@@ -56,6 +56,7 @@ fn check_each(alloc: Global, taken: &[TakenFile]) -> Result<(), RunError>
     ensures built { OnOk result (All (λ t. is_built t ≡ true) taken.now) }
     ensures unbuilt { IfErr result (IfTold (λ error. (path : Items ℕ) × IsFirstUnbuilt taken.now path × (error ≡ RunError.NotBuilt path))) }
     ensures fault { result ≢ Err RunError.FolderFault }
+    ensures disk { result ≢ Err RunError.DiskFault }
 {
     for file in taken {
         if !is_built(alloc, file)? {
@@ -70,6 +71,7 @@ fn check_plain(alloc: Global, files: &[FileAt]) -> Result<(), RunError>
     ensures plain { OnOk result (is_configured files.now ≡ false) }
     ensures configured { IfErr result (IfTold (λ error. (is_configured files.now ≡ true) × (error ≡ RunError.NotBuilt (codes "renovate.json")))) }
     ensures fault { result ≢ Err RunError.FolderFault }
+    ensures disk { result ≢ Err RunError.DiskFault }
 {
     if is_configured(files) {
         return Err(not_built(alloc, "renovate.json"));
@@ -83,6 +85,7 @@ pub(crate) fn built(alloc: Global, files: &[FileAt]) -> Result<List<TakenFile>, 
     ensures built { IfOk result (AreBuilt files.now) }
     ensures refused { (index : Items NamedFile) → IfErr result (IfTold (IsRefusal index files.now)) }
     ensures fault { result ≢ Err RunError.FolderFault }
+    ensures disk { result ≢ Err RunError.DiskFault }
 {
     let taken = taken(alloc, files)?;
     check_plain(alloc, files)?;

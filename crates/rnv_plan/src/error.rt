@@ -46,6 +46,7 @@ impl<T: Drop> From<AllocFailed<T>> for RunError {
 pub(crate) fn limit(alloc: Global, which: &str, number: u64) -> RunError
     ensures told { IfTold (λ error. error ≡ RunError.Limit which.now number) result }
     ensures fault { result ≢ RunError.FolderFault }
+    ensures disk { result ≢ RunError.DiskFault }
 {
     match Text::copied(alloc, which) {
         Ok(which) => RunError::Limit { which, number },
@@ -57,6 +58,7 @@ pub(crate) fn limit(alloc: Global, which: &str, number: u64) -> RunError
 pub(crate) fn not_built(alloc: Global, path: &str) -> RunError
     ensures told { IfTold (λ error. error ≡ RunError.NotBuilt path.now) result }
     ensures fault { result ≢ RunError.FolderFault }
+    ensures disk { result ≢ RunError.DiskFault }
 {
     match Text::copied(alloc, path) {
         Ok(path) => RunError::NotBuilt { path },

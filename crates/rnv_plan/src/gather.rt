@@ -1,4 +1,4 @@
-ghost use Rattle.std.specs.Prelude.{◌≡◌, ℕ, List as Items, Option, map, IfOk, IfErr, OnOk};
+ghost use Rattle.std.specs.Prelude.{◌≡◌, ◌≢◌, ℕ, List as Items, Option, map, IfOk, IfErr, OnOk};
 ghost use Rattle.std.specs.List.{All};
 ghost use Rattle.rnv_base.specs.Causes.{FaultsBy};
 ghost use Rattle.rnv_forge.specs.Named.{IsRisingBy};
@@ -32,6 +32,7 @@ fn gather_taken<O: Folder>(
     ensures refused { O.tells → IfErr result (IfTold (HasUnsound (O.files folder.old) (deps_in taken))) }
     ensures same { O.tells → (O.files folder.new ≡ O.files folder.old) }
     ensures cause { FaultsBy (O.faults folder.old) (O.faults folder.new) result RunError.FolderFault }
+    ensures disk { result ≢ Err RunError.DiskFault }
 {
     let indexes = read_indexes(alloc, folder, taken.as_slice())?;
     Ok(pick_files(alloc, taken, &indexes)?)
@@ -49,6 +50,7 @@ fn gather_files<O: Folder>(
     ensures refused { O.tells → IfErr result (IfTold (IsRefusal (O.files folder.old) files.now)) }
     ensures same { O.tells → (O.files folder.new ≡ O.files folder.old) }
     ensures cause { FaultsBy (O.faults folder.old) (O.faults folder.new) result RunError.FolderFault }
+    ensures disk { result ≢ Err RunError.DiskFault }
 {
     match built(alloc, files) {
         Ok(taken) => gather_taken(alloc, folder, taken),
@@ -98,6 +100,7 @@ pub fn gather_base<O: Folder>(
     ensures exactly { O.tells → OnOk result ((error : Error) → ¬ IsRefusal (O.files folder.old) files.now error) }
     ensures same { O.tells → (O.files folder.new ≡ O.files folder.old) }
     ensures cause { FaultsBy (O.faults folder.old) (O.faults folder.new) result RunError.FolderFault }
+    ensures disk { result ≢ Err RunError.DiskFault }
 {
     let picked = gather_files(alloc, folder, files.as_slice())?;
     Ok(inputs(alloc, repo, moment, picked)?)
@@ -129,6 +132,7 @@ fn folder_base<O: Folder>(
     ensures refused { O.tells → IfErr result (IfTold (IsFolderRefusal repo.now (O.files folder.old))) }
     ensures same { O.tells → (O.files folder.new ≡ O.files folder.old) }
     ensures cause { FaultsBy (O.faults folder.old) (O.faults folder.new) result RunError.FolderFault }
+    ensures disk { result ≢ Err RunError.DiskFault }
 {
     match read_base(alloc, folder, repo) {
         Ok(FolderBase { files, passed: _ }) => Ok(unchanged(alloc, files)?),
@@ -160,6 +164,7 @@ pub fn gather_folder<O: Folder>(
     ensures exactly { O.tells → OnOk result ((error : Error) → ¬ IsFolderRefusal repo.now (O.files folder.old) error) }
     ensures same { O.tells → (O.files folder.new ≡ O.files folder.old) }
     ensures cause { FaultsBy (O.faults folder.old) (O.faults folder.new) result RunError.FolderFault }
+    ensures disk { result ≢ Err RunError.DiskFault }
 {
     let files = folder_base(alloc, folder, repo)?;
     let inputs = gather_base(alloc, folder, repo, moment, &files)?;

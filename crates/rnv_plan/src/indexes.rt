@@ -46,6 +46,7 @@ fn package_names(alloc: Global, taken: &[TakenFile]) -> Result<BTreeSet<Text>, A
 fn refused(alloc: Global, name: &str, line: u64) -> RunError
     ensures told { IfTold (λ error. error ≡ RunError.IndexRefused (npm_path name.now) line) result }
     ensures fault { result ≢ RunError.FolderFault }
+    ensures disk { result ≢ RunError.DiskFault }
 {
     match NpmIndex.path(alloc, name) {
         Ok(file) => RunError::IndexRefused { file, line },
@@ -64,6 +65,7 @@ fn read_index<O: Folder>(
     ensures refused { O.tells → IfErr result (IfTold (IsIndexRefusal name.now (index_for (O.files folder.old) name.now))) }
     ensures same { O.tells → (O.files folder.new ≡ O.files folder.old) }
     ensures cause { FaultsBy (O.faults folder.old) (O.faults folder.new) result RunError.FolderFault }
+    ensures disk { result ≢ Err RunError.DiskFault }
 {
     match read_releases(alloc, folder, &NpmIndex, name) {
         Ok(found) => Ok(found),
@@ -87,6 +89,7 @@ fn read_each<O: Folder>(
     ensures refused { O.tells → IfErr result (IfTold (HasUnsoundName (O.files folder.old) (keys names))) }
     ensures same { O.tells → (O.files folder.new ≡ O.files folder.old) }
     ensures cause { FaultsBy (O.faults folder.old) (O.faults folder.new) result RunError.FolderFault }
+    ensures disk { result ≢ Err RunError.DiskFault }
 {
     let mut indexes = BTreeMap::new(alloc);
     for name in names {
@@ -109,6 +112,7 @@ pub(crate) fn read_indexes<O: Folder>(
     ensures refused { O.tells → IfErr result (IfTold (HasUnsound (O.files folder.old) (deps_in taken.now))) }
     ensures same { O.tells → (O.files folder.new ≡ O.files folder.old) }
     ensures cause { FaultsBy (O.faults folder.old) (O.faults folder.new) result RunError.FolderFault }
+    ensures disk { result ≢ Err RunError.DiskFault }
 {
     let names = package_names(alloc, taken)?;
     read_each(alloc, folder, names)

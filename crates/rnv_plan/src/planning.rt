@@ -43,6 +43,7 @@ pub fn few_items(alloc: Global, updates: List<Update>) -> Result<List<Item>, Run
     ensures few { IfOk result (AreFewItems updates) }
     ensures many { IfErr result (IfTold (HaveManyItems updates)) }
     ensures fault { result ≢ Err RunError.FolderFault }
+    ensures disk { result ≢ Err RunError.DiskFault }
 {
     let Ok(items) = items(alloc, updates) else {
         return Err(RunError::Memory);
@@ -58,6 +59,7 @@ fn picked_items(alloc: Global, picked: List<PickedFile>) -> Result<List<Item>, R
     ensures few { IfOk result (AreFewItems (updates_in picked)) }
     ensures many { IfErr result (IfTold (HaveManyItems (updates_in picked))) }
     ensures fault { result ≢ Err RunError.FolderFault }
+    ensures disk { result ≢ Err RunError.DiskFault }
 {
     match all_updates(alloc, picked) {
         Ok(updates) => few_items(alloc, updates),
@@ -79,6 +81,7 @@ pub fn plan_folder<O: Folder>(
     ensures exactly { O.tells → OnOk result ((error : Error) → ¬ IsPlanRefusal repo.now (O.files folder.old) error) }
     ensures same { O.tells → (O.files folder.new ≡ O.files folder.old) }
     ensures cause { FaultsBy (O.faults folder.old) (O.faults folder.new) result RunError.FolderFault }
+    ensures disk { result ≢ Err RunError.DiskFault }
 {
     match gather_folder(alloc, folder, repo, moment) {
         Ok(planned) => picked_items(alloc, planned.inputs.picked),

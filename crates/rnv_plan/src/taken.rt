@@ -89,6 +89,7 @@ fn npm_deps(alloc: Global, file: &FileAt, room: usize) -> Result<List<Dep>, RunE
     ensures few { IfOk result (λ deps. length deps ≤ room) }
     ensures many { IfErr result (IfTold (λ error. (deps : Items Dep) × AreDeps ManagerKind.Npm file.now deps × (room < length deps) × (error ≡ RunError.Limit (codes "dependencies") 20000))) }
     ensures fault { result ≢ Err RunError.FolderFault }
+    ensures disk { result ≢ Err RunError.DiskFault }
 {
     let npm = NpmManager;
     let found = found(alloc, &npm, file.bytes.as_slice())?;
@@ -109,6 +110,7 @@ fn file_deps(
     ensures few { IfOk result (λ deps. length deps ≤ room) }
     ensures many { IfErr result (IfTold (λ error. (deps : Items Dep) × AreDeps manager file.now deps × (room < length deps) × (error ≡ RunError.Limit (codes "dependencies") 20000))) }
     ensures fault { result ≢ Err RunError.FolderFault }
+    ensures disk { result ≢ Err RunError.DiskFault }
 {
     match manager {
         ManagerKind::Npm => npm_deps(alloc, file, room),
@@ -124,6 +126,7 @@ pub(crate) fn taken(alloc: Global, files: &[FileAt]) -> Result<List<TakenFile>, 
     ensures few { IfOk result (AreFew files.now) }
     ensures many { IfErr result (IfTold (λ error. HaveMany files.now × (error ≡ RunError.Limit (codes "dependencies") 20000))) }
     ensures fault { result ≢ Err RunError.FolderFault }
+    ensures disk { result ≢ Err RunError.DiskFault }
 {
     let mut taken = List::empty(alloc);
     let mut room = MOST;

@@ -1,6 +1,6 @@
 use Rattle.rnv_base.specs.Causes.{Rose}
 use Rattle.rnv_app.proofs.Ends.{disk_at, error_of, folder_at, part_at, refused_line, status_of}
-use Rattle.rnv_app.proofs.Answers.{complete_is, exactly_is, import_is, in_part_is, named_is, not_built_is, plan_same, printed_is, show_is, usage_is}
+use Rattle.rnv_app.proofs.Answers.{causes_is, complete_is, exactly_is, import_is, in_part_is, named_is, plan_same, printed_is, show_is, usage_is}
 use Rattle.rnv_app.proofs.top.renovate.Goals as goal
 
 pub returns-clause-statuses : goal.returns-clause-statuses
@@ -18,8 +18,8 @@ returns-clause-disk_fault g c = λ e. c.answer_to-text.ensures.disk_cause.failed
 pub returns-clause-write_fault : goal.returns-clause-write_fault
 returns-clause-write_fault g c = λ e. (part_at _ _ _ _ _ _ _ c.tell-code.ensures.told e).2
 
-pub returns-clause-not_built : goal.returns-clause-not_built
-returns-clause-not_built g c = not_built_is _ _ _ c.answer_to-text.ensures.answered _ _ _ _ _ _ c.tell-code.ensures.told
+pub returns-clause-causes : goal.returns-clause-causes
+returns-clause-causes g c = causes_is _ _ _ c.answer_to-text.ensures.answered _ _ _ _ _ _ c.tell-code.ensures.told
 
 pub returns-clause-exactly : goal.returns-clause-exactly
 returns-clause-exactly g c = exactly_is _ _ _ c.answer_to-text.ensures.answered _ _ _ _ _ _ c.tell-code.ensures.told
