@@ -38,7 +38,7 @@ passed false x y e = (refl, e)
 -- A reading gives exactly what is spelled at the front, of the values that fit.
 pub record IsFormat {X : Type 0} (Fits : X → Type 0) (s : X → List ℕ) (r : Reading X) : Type 0 where
   pub takes : (bytes rest : List ℕ) (x : X) → IsBytes bytes → r bytes ≡ Some (x, rest) → Fits x × (bytes ≡ s x ++ rest)
-  pub again : (bytes rest : List ℕ) (x : X) → IsBytes bytes → Fits x → bytes ≡ s x ++ rest → r bytes ≡ Some (x, rest)
+  pub again : (bytes rest : List ℕ) (x : X) → Fits x → bytes ≡ s x ++ rest → r bytes ≡ Some (x, rest)
 
 -- one behind the other
 
@@ -55,11 +55,11 @@ both_takes {A = A} {B = B} F G s t r q f g bytes rest x fits e =
     subst (λ (y : (A × B) × List ℕ). (F y.0.0 × G y.0.1) × (bytes ≡ (s y.0.0 ++ t y.0.1) ++ y.1)) (some_is made (x, rest) b.2) result
 
 both_again : {A B : Type 0} (F : A → Type 0) (G : B → Type 0) (s : A → List ℕ) (t : B → List ℕ) (r : Reading A) (q : Reading B) → IsFormat F s r → IsFormat G t q
-    → (bytes rest : List ℕ) (x : A × B) → IsBytes bytes → F x.0 × G x.1 → bytes ≡ (s x.0 ++ t x.1) ++ rest → both_at r q bytes ≡ Some (x, rest)
-both_again F G s t r q f g bytes rest x fits h e =
+    → (bytes rest : List ℕ) (x : A × B) → F x.0 × G x.1 → bytes ≡ (s x.0 ++ t x.1) ++ rest → both_at r q bytes ≡ Some (x, rest)
+both_again F G s t r q f g bytes rest x h e =
     let e1 : bytes ≡ s x.0 ++ (t x.1 ++ rest) = e ∙ append_assoc (s x.0) (t x.1) rest in
-    let first = f.again bytes (t x.1 ++ rest) x.0 fits h.0 e1 in
-    let second = g.again (t x.1 ++ rest) rest x.1 (behind bytes (s x.0) (t x.1 ++ rest) fits e1) h.1 refl in
+    let first = f.again bytes (t x.1 ++ rest) x.0 h.0 e1 in
+    let second = g.again (t x.1 ++ rest) rest x.1 h.1 refl in
     rw (first, second) refl
 
 pub both_format : {A B : Type 0} (F : A → Type 0) (G : B → Type 0) (s : A → List ℕ) (t : B → List ℕ) (r : Reading A) (q : Reading B) → IsFormat F s r → IsFormat G t q
@@ -81,10 +81,10 @@ made_format {A = A} {B = B} F G s t r make back f there same keep keep-back = re
         let result : G (make a.0.0) × (bytes ≡ t (make a.0.0) ++ a.0.1) = (keep a.0.0 h.0, h.1 ∙ ap (λ (l : List ℕ). l ++ a.0.1) (sym (same a.0.0))) in
         subst (λ (y : B × List ℕ). G y.0 × (bytes ≡ t y.0 ++ y.1)) (some_is made (x, rest) a.2) result
 
-    again : (bytes rest : List ℕ) (x : B) → IsBytes bytes → G x → bytes ≡ t x ++ rest → made_at make r bytes ≡ Some (x, rest)
-    again bytes rest x fits h e =
+    again : (bytes rest : List ℕ) (x : B) → G x → bytes ≡ t x ++ rest → made_at make r bytes ≡ Some (x, rest)
+    again bytes rest x h e =
         let one : t x ≡ s (back x) = sym (ap t (there x)) ∙ same (back x) in
-        let first = f.again bytes rest (back x) fits (keep-back x h) (e ∙ ap (λ (l : List ℕ). l ++ rest) one) in
+        let first = f.again bytes rest (back x) (keep-back x h) (e ∙ ap (λ (l : List ℕ). l ++ rest) one) in
         rw first (ap (λ (b : B). Some (b, rest)) (there x))
 
 -- numbers
@@ -110,9 +110,9 @@ number_takes (a ∷ b ∷ c ∷ d ∷ more) rest n fits e =
     let whole : a ∷ b ∷ c ∷ d ∷ more ≡ four_bytes (number_in a b c d) ++ more = rw (four_bytes_of a b c d (fits 1) (fits 2) (fits 3)) refl in
     subst (λ (y : ℕ × List ℕ). Unit {0} × (a ∷ b ∷ c ∷ d ∷ more ≡ four_bytes y.0 ++ y.1)) (some_is made (n, rest) e) (tt, whole)
 
-number_again : (bytes rest : List ℕ) (n : ℕ) → IsBytes bytes → Unit {0} → bytes ≡ four_bytes n ++ rest → number_at bytes ≡ Some (n, rest)
+number_again : (bytes rest : List ℕ) (n : ℕ) → Unit {0} → bytes ≡ four_bytes n ++ rest → number_at bytes ≡ Some (n, rest)
 unfolding number_at four_bytes
-number_again bytes rest n fits h e =
+number_again bytes rest n h e =
     let same : number_in (n / 16777216) (n / 65536 % 256) (n / 256 % 256) (n % 256) ≡ n = omega arith in
     ap number_at e ∙ ap (λ k. Some (k, rest)) same
 
@@ -142,10 +142,10 @@ long_takes bytes rest n fits e =
     let whole : bytes ≡ eight_bytes (a.0.0.0 * 4294967296 + a.0.0.1) ++ a.0.1 = t.1 ∙ ap (λ (l : List ℕ). l ++ a.0.1) (sym (high_low a.0.0.0 a.0.0.1 small)) in
     subst (λ (y : ℕ × List ℕ). Unit {0} × (bytes ≡ eight_bytes y.0 ++ y.1)) (some_is made (n, rest) a.2) (tt, whole)
 
-long_again : (bytes rest : List ℕ) (n : ℕ) → IsBytes bytes → Unit {0} → bytes ≡ eight_bytes n ++ rest → long_at bytes ≡ Some (n, rest)
+long_again : (bytes rest : List ℕ) (n : ℕ) → Unit {0} → bytes ≡ eight_bytes n ++ rest → long_at bytes ≡ Some (n, rest)
 unfolding long_at eight_bytes
-long_again bytes rest n fits h e =
-    let first = both_again (λ n. Unit {0}) (λ n. Unit {0}) four_bytes four_bytes number_at number_at number_format number_format bytes rest (n / 4294967296, n % 4294967296) fits (tt, tt) e in
+long_again bytes rest n h e =
+    let first = both_again (λ n. Unit {0}) (λ n. Unit {0}) four_bytes four_bytes number_at number_at number_format number_format bytes rest (n / 4294967296, n % 4294967296) (tt, tt) e in
     let same : n / 4294967296 * 4294967296 + n % 4294967296 ≡ n = omega arith in
     rw first (ap (λ k. Some (k, rest)) same)
 
@@ -171,10 +171,10 @@ bytes_takes bytes rest x fits e =
     let made : List ℕ × List ℕ = (take n more, drop n more) in
     subst (λ (y : List ℕ × List ℕ). Unit {0} × (bytes ≡ spelled_bytes y.0 ++ y.1)) (some_is made (x, rest) g.1) (tt, whole)
 
-bytes_again : (bytes rest x : List ℕ) → IsBytes bytes → Unit {0} → bytes ≡ spelled_bytes x ++ rest → bytes_at bytes ≡ Some (x, rest)
+bytes_again : (bytes rest x : List ℕ) → Unit {0} → bytes ≡ spelled_bytes x ++ rest → bytes_at bytes ≡ Some (x, rest)
 unfolding bytes_at
-bytes_again bytes rest x fits h e =
-    let first = number_again bytes (x ++ rest) (length x) fits tt (e ∙ append_assoc (four_bytes (length x)) x rest) in
+bytes_again bytes rest x h e =
+    let first = number_again bytes (x ++ rest) (length x) tt (e ∙ append_assoc (four_bytes (length x)) x rest) in
     let long : ltb (length (x ++ rest)) (length x) ≡ false = le-ltb _ _ (omega (arith, length-append x rest)) in
     rw (first, long, take_at x rest (length x) refl, drop_at x rest (length x) refl) refl
 
@@ -189,9 +189,9 @@ text_takes bytes rest x fits e =
     let t = bytes_takes bytes a.0.1 a.0.0 fits a.1 in
     subst (λ (y : List ℕ × List ℕ). IsUtf8 y.0 × (bytes ≡ spelled_bytes y.0 ++ y.1)) (some_is a.0 (x, rest) g.1) (IsUtf8-from_is_utf8 a.0.0 g.0, t.1)
 
-text_again : (bytes rest x : List ℕ) → IsBytes bytes → IsUtf8 x → bytes ≡ spelled_bytes x ++ rest → text_at bytes ≡ Some (x, rest)
+text_again : (bytes rest x : List ℕ) → IsUtf8 x → bytes ≡ spelled_bytes x ++ rest → text_at bytes ≡ Some (x, rest)
 unfolding text_at
-text_again bytes rest x fits h e = rw (bytes_again bytes rest x fits tt e, is_utf8-from_IsUtf8 x h) refl
+text_again bytes rest x h e = rw (bytes_again bytes rest x tt e, is_utf8-from_IsUtf8 x h) refl
 
 pub text_format : IsFormat IsUtf8 spelled_bytes text_at
 text_format = record { takes = text_takes; again = text_again }
@@ -213,13 +213,13 @@ parts_take {A = A} F s r f (suc n) bytes rest xs fits e =
     let result : AllByRecursion F made.0 × (length made.0 ≡ suc n) × (bytes ≡ flat_map s made.0 ++ made.1) = ((h.0, k.0), ap suc k.1, whole) in
     subst (λ (y : List A × List ℕ). AllByRecursion F y.0 × (length y.0 ≡ suc n) × (bytes ≡ flat_map s y.0 ++ y.1)) (some_is made (xs, rest) b.2) result
 
-parts_again : {A : Type 0} (F : A → Type 0) (s : A → List ℕ) (r : Reading A) → IsFormat F s r → (xs : List A) (bytes rest : List ℕ) → IsBytes bytes → AllByRecursion F xs → bytes ≡ flat_map s xs ++ rest
+parts_again : {A : Type 0} (F : A → Type 0) (s : A → List ℕ) (r : Reading A) → IsFormat F s r → (xs : List A) (bytes rest : List ℕ) → AllByRecursion F xs → bytes ≡ flat_map s xs ++ rest
     → parts_at r (length xs) bytes ≡ Some (xs, rest)
-parts_again F s r f [] bytes rest fits h e = ap (λ (b : List ℕ). Some ([], b)) e
-parts_again F s r f (x ∷ xs) bytes rest fits h e =
+parts_again F s r f [] bytes rest h e = ap (λ (b : List ℕ). Some ([], b)) e
+parts_again F s r f (x ∷ xs) bytes rest h e =
     let e1 : bytes ≡ s x ++ (flat_map s xs ++ rest) = e ∙ append_assoc (s x) (flat_map s xs) rest in
-    let first = f.again bytes (flat_map s xs ++ rest) x fits h.0 e1 in
-    let second = parts_again F s r f xs (flat_map s xs ++ rest) rest (behind bytes (s x) (flat_map s xs ++ rest) fits e1) h.1 refl in
+    let first = f.again bytes (flat_map s xs ++ rest) x h.0 e1 in
+    let second = parts_again F s r f xs (flat_map s xs ++ rest) rest h.1 refl in
     rw (first, second) refl
 
 pub list_format : {A : Type 0} (F : A → Type 0) (s : A → List ℕ) (r : Reading A) → IsFormat F s r → IsFormat (AllByRecursion F) (spelled_list s) (list_at r)
@@ -233,11 +233,11 @@ list_format {A = A} F s r f = record { takes = takes; again = again }
         let k = parts_take F s r f a.0.0 a.0.1 rest xs (behind bytes (four_bytes a.0.0) a.0.1 fits t.1) a.2 in
         (k.0, t.1 ∙ ap (λ (l : List ℕ). four_bytes a.0.0 ++ l) k.2 ∙ sym (append_assoc (four_bytes a.0.0) (flat_map s xs) rest) ∙ ap (λ (n : ℕ). (four_bytes n ++ flat_map s xs) ++ rest) (sym k.1))
 
-    again : (bytes rest : List ℕ) (xs : List A) → IsBytes bytes → AllByRecursion F xs → bytes ≡ spelled_list s xs ++ rest → list_at r bytes ≡ Some (xs, rest)
-    again bytes rest xs fits h e =
+    again : (bytes rest : List ℕ) (xs : List A) → AllByRecursion F xs → bytes ≡ spelled_list s xs ++ rest → list_at r bytes ≡ Some (xs, rest)
+    again bytes rest xs h e =
         let e1 : bytes ≡ four_bytes (length xs) ++ (flat_map s xs ++ rest) = e ∙ append_assoc (four_bytes (length xs)) (flat_map s xs) rest in
-        let first = number_again bytes (flat_map s xs ++ rest) (length xs) fits tt e1 in
-        let second = parts_again F s r f xs (flat_map s xs ++ rest) rest (behind bytes (four_bytes (length xs)) (flat_map s xs ++ rest) fits e1) h refl in
+        let first = number_again bytes (flat_map s xs ++ rest) (length xs) tt e1 in
+        let second = parts_again F s r f xs (flat_map s xs ++ rest) rest h refl in
         rw first second
 
 pub option_format : {A : Type 0} (F : A → Type 0) (s : A → List ℕ) (r : Reading A) → IsFormat F s r → IsFormat (λ o. IfSome o F) (spelled_option s) (option_at r)
@@ -268,8 +268,8 @@ option_format {A = A} F s r f = record { takes = takes; again = again }
               some_takes flag more rest o fits (eqb-true _ _ k.0) k.1
         ] refl e
 
-    again : (bytes rest : List ℕ) (o : Option A) → IsBytes bytes → IfSome o F → bytes ≡ spelled_option s o ++ rest → option_at r bytes ≡ Some (o, rest)
-    again bytes rest None fits h e = rw e refl
-    again bytes rest (Some x) fits h e =
-        let first = f.again (s x ++ rest) rest x (behind bytes (1 ∷ []) (s x ++ rest) fits e) h refl in
+    again : (bytes rest : List ℕ) (o : Option A) → IfSome o F → bytes ≡ spelled_option s o ++ rest → option_at r bytes ≡ Some (o, rest)
+    again bytes rest None h e = rw e refl
+    again bytes rest (Some x) h e =
+        let first = f.again (s x ++ rest) rest x h refl in
         rw (e, first) refl

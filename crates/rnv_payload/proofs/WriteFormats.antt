@@ -1,10 +1,10 @@
 -- The bytes of a write are read exactly where they spell one.
-use Rattle.std.proofs.Common.{◌≡◌, ◌<◌, arith, inl, inr, ℕ, suc, true, false, cond, eqb, List, [], ◌∷◌, ◌++◌, length, Option, Some, None, refl, sym, ap, subst, ◌∙◌, append_assoc}
-use Rattle.std.specs.Prelude.{All, IfSome}
+use Rattle.std.proofs.Common.{◌≡◌, ℕ, suc, true, false, cond, eqb, List, [], ◌∷◌, ◌++◌, length, Option, Some, None, refl, sym, ap, subst, ◌∙◌, append_assoc}
+use Rattle.std.specs.Prelude.{IfSome}
 use Rattle.std.specs.List.{AllByRecursion}
 use Rattle.std.specs.Str.{IsUtf8}
-use Rattle.std.proofs.lemmas.Bool.{cases_lt, eqb-true}
-use Rattle.std.proofs.lemmas.List.{append-nil, get_or_past, nil_from_length}
+use Rattle.std.proofs.lemmas.Bool.{eqb-true}
+use Rattle.std.proofs.lemmas.List.{append-nil, nil_from_length}
 use Rattle.rnv_base.specs.Files.{NamedFile}
 use Rattle.rnv_forge.specs.declared.branch.Branch.{Branch}
 use Rattle.rnv_forge.specs.declared.branch.Key.{Key}
@@ -14,7 +14,7 @@ use Rattle.rnv_forge.specs.Files.{PathChange}
 use Rattle.rnv_forge.specs.WellFormed.{HasKeyTexts, HasBranchTexts, HasTexts}
 use Rattle.rnv_payload.specs.Spelling.{four_bytes, eight_bytes, spelled_bytes, spelled_list, spelled_option, spelled_key, spelled_file, spelled_change, spelled_branch, spelling}
 use Rattle.rnv_payload.specs.Reading.{Reading, both_at, made_at, number_at, long_at, bytes_at, text_at, list_at, option_at, key_at, file_at, change_at, branch_at, base_at, put_at, drop_at, open_at, edit_at, close_at, finish_at, fields_at, write_at, whole_write}
-use Rattle.rnv_payload.proofs.Formats.{IsBytes, IsFormat, behind, bind_some, some_is, kept, both_format, made_format, number_format, long_format, bytes_format, text_format, list_format, option_format}
+use Rattle.rnv_payload.proofs.Formats.{IsBytes, IsFormat, bind_some, some_is, kept, both_format, made_format, number_format, long_format, bytes_format, text_format, list_format, option_format}
 
 abbrev Any : {X : Type 0} → X → Type 0
 Any x = Unit {0}
@@ -121,11 +121,11 @@ kind_takes k F s r make f same texts kind more rest w fits is e =
     let result : IsRead (kind ∷ more) (make a.0.0) a.0.1 = record { texts = texts a.0.0 h.0; spelled = whole } in
     subst (λ (y : Write × List ℕ). IsRead (kind ∷ more) y.0 y.1) (some_is made (w, rest) a.2) result
 
-kind_again : {A : Type 0} (k : ℕ) (F : A → Type 0) (s : A → List ℕ) (r : Reading A) (make : A → Write) → IsFormat F s r → (a : A) → spelling (make a) ≡ k ∷ s a → (bytes rest : List ℕ) → IsBytes bytes → F a
+kind_again : {A : Type 0} (k : ℕ) (F : A → Type 0) (s : A → List ℕ) (r : Reading A) (make : A → Write) → IsFormat F s r → (a : A) → spelling (make a) ≡ k ∷ s a → (bytes rest : List ℕ) → F a
     → bytes ≡ spelling (make a) ++ rest → (bytes ≡ k ∷ (s a ++ rest)) × (made_at make r (s a ++ rest) ≡ Some (make a, rest))
-kind_again k F s r make f a same bytes rest fits h e =
+kind_again k F s r make f a same bytes rest h e =
     let e1 : bytes ≡ k ∷ (s a ++ rest) = e ∙ ap (λ (l : List ℕ). l ++ rest) same in
-    let first = f.again (s a ++ rest) rest a (behind bytes (k ∷ []) (s a ++ rest) fits e1) h refl in
+    let first = f.again (s a ++ rest) rest a h refl in
     (e1, rw first refl)
 
 same_base : (p : List ℕ × List PathChange) → spelling (SetBase p.0 p.1) ≡ 1 ∷ (spelled_bytes p.0 ++ spelled_list spelled_change p.1)
@@ -166,24 +166,24 @@ unfolding write_at
 write_takes [] rest w fits e = absurd cc
 write_takes (kind ∷ more) rest w fits e = fields_take kind more rest w (λ i. fits (suc i)) e
 
-write_again : (w : Write) (bytes rest : List ℕ) → IsBytes bytes → HasTexts w → bytes ≡ spelling w ++ rest → write_at bytes ≡ Some (w, rest)
+write_again : (w : Write) (bytes rest : List ℕ) → HasTexts w → bytes ≡ spelling w ++ rest → write_at bytes ≡ Some (w, rest)
 unfolding write_at fields_at base_at put_at drop_at open_at edit_at close_at finish_at
-write_again (SetBase repo changes) bytes rest fits h e =
-    let k = kind_again 1 _ _ _ (λ p. SetBase p.0 p.1) base_parts (repo, changes) (same_base (repo, changes)) bytes rest fits (h.0, h.1) e in ap write_at k.0 ∙ k.1
-write_again (PutBranch repo branch) bytes rest fits h e =
-    let k = kind_again 2 _ _ _ (λ p. PutBranch p.0 p.1) put_parts (repo, branch) (same_put (repo, branch)) bytes rest fits (h.0, h.1) e in ap write_at k.0 ∙ k.1
-write_again (DropBranch repo name) bytes rest fits h e =
-    let k = kind_again 3 _ _ _ (λ p. DropBranch p.0 p.1) drop_parts (repo, name) refl bytes rest fits (h.0, h.1) e in ap write_at k.0 ∙ k.1
-write_again (OpenRequest repo number branch updates title body labels made) bytes rest fits h e =
+write_again (SetBase repo changes) bytes rest h e =
+    let k = kind_again 1 _ _ _ (λ p. SetBase p.0 p.1) base_parts (repo, changes) (same_base (repo, changes)) bytes rest (h.0, h.1) e in ap write_at k.0 ∙ k.1
+write_again (PutBranch repo branch) bytes rest h e =
+    let k = kind_again 2 _ _ _ (λ p. PutBranch p.0 p.1) put_parts (repo, branch) (same_put (repo, branch)) bytes rest (h.0, h.1) e in ap write_at k.0 ∙ k.1
+write_again (DropBranch repo name) bytes rest h e =
+    let k = kind_again 3 _ _ _ (λ p. DropBranch p.0 p.1) drop_parts (repo, name) refl bytes rest (h.0, h.1) e in ap write_at k.0 ∙ k.1
+write_again (OpenRequest repo number branch updates title body labels made) bytes rest h e =
     let p : OpenParts = (repo, (number, (branch, (updates, (title, (body, (labels, made))))))) in
-    let k = kind_again 4 _ _ _ made_open open_parts p (same_open p) bytes rest fits (h.0, (tt, (h.1, (h.2.updates, (h.2.title, (h.2.body, (h.2.labels, tt))))))) e in ap write_at k.0 ∙ k.1
-write_again (EditRequest repo number updates title body labels) bytes rest fits h e =
+    let k = kind_again 4 _ _ _ made_open open_parts p (same_open p) bytes rest (h.0, (tt, (h.1, (h.2.updates, (h.2.title, (h.2.body, (h.2.labels, tt))))))) e in ap write_at k.0 ∙ k.1
+write_again (EditRequest repo number updates title body labels) bytes rest h e =
     let p : EditParts = (repo, (number, (updates, (title, (body, labels))))) in
-    let k = kind_again 5 _ _ _ made_edit edit_parts p (same_edit p) bytes rest fits (h.0, (tt, (h.1.updates, (h.1.title, (h.1.body, h.1.labels))))) e in ap write_at k.0 ∙ k.1
-write_again (Autoclose repo number) bytes rest fits h e =
-    let k = kind_again 6 _ _ _ (λ p. Autoclose p.0 p.1) close_parts (repo, number) refl bytes rest fits (h, tt) e in ap write_at k.0 ∙ k.1
-write_again (Finish repo page) bytes rest fits h e =
-    let k = kind_again 7 _ _ _ (λ p. Finish p.0 p.1) finish_parts (repo, page) refl bytes rest fits (h.0, h.1) e in ap write_at k.0 ∙ k.1
+    let k = kind_again 5 _ _ _ made_edit edit_parts p (same_edit p) bytes rest (h.0, (tt, (h.1.updates, (h.1.title, (h.1.body, h.1.labels))))) e in ap write_at k.0 ∙ k.1
+write_again (Autoclose repo number) bytes rest h e =
+    let k = kind_again 6 _ _ _ (λ p. Autoclose p.0 p.1) close_parts (repo, number) refl bytes rest (h, tt) e in ap write_at k.0 ∙ k.1
+write_again (Finish repo page) bytes rest h e =
+    let k = kind_again 7 _ _ _ (λ p. Finish p.0 p.1) finish_parts (repo, page) refl bytes rest (h.0, h.1) e in ap write_at k.0 ∙ k.1
 
 -- all of the bytes
 
@@ -197,13 +197,6 @@ whole_takes bytes w fits e =
     let whole : bytes ≡ spelling a.0.0 = t.spelled ∙ ap (λ (l : List ℕ). spelling a.0.0 ++ l) nothing ∙ append-nil (spelling a.0.0) in
     subst (λ (v : Write). HasTexts v × (bytes ≡ spelling v)) (some_is a.0.0 w g.1) (t.texts, whole)
 
-pub whole_again : (bytes : List ℕ) (w : Write) → IsBytes bytes → HasTexts w → bytes ≡ spelling w → whole_write bytes ≡ Some w
+pub whole_again : (bytes : List ℕ) (w : Write) → HasTexts w → bytes ≡ spelling w → whole_write bytes ≡ Some w
 unfolding whole_write
-whole_again bytes w fits texts e = rw (write_again w bytes [] fits texts (e ∙ sym (append-nil (spelling w)))) refl
-
-pub are_bytes : (bytes : List ℕ) → All (λ b. b < 256) bytes → IsBytes bytes
-are_bytes bytes h i =
-    elim (cases_lt i (length bytes)) [
-      | inl lt ↦ h i 0 lt
-      | inr le ↦ rw (get_or_past bytes i 0 le) (omega arith)
-    ]
+whole_again bytes w texts e = rw (write_again w bytes [] texts (e ∙ sym (append-nil (spelling w)))) refl

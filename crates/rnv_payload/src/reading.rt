@@ -1,4 +1,4 @@
-ghost use Rattle.std.specs.Prelude.{◌≡◌, ◌<◌, ℕ, List, Some, All, IfOk, IfSome};
+ghost use Rattle.std.specs.Prelude.{◌≡◌, ℕ, List, Some, IfOk, IfSome};
 ghost use Rattle.rnv_forge.specs.declared.write.Write.{Write};
 ghost use Rattle.rnv_forge.specs.WellFormed.{HasTexts, IsWellFormed};
 ghost use Rattle.rnv_payload.specs.Spelling.{spelling};
@@ -154,5 +154,5 @@ pub fn read_write(alloc: Global, bytes: &[u8]) -> Result<Option<Write>, AllocErr
 
 /// No two writes have one spelling.
 pub fn one_spelling()
-    ensures { (v w : Write) → HasTexts v → HasTexts w → All (λ b. b < 256) (spelling v) → spelling v ≡ spelling w → v ≡ w }
+    ensures { (v w : Write) → HasTexts v → HasTexts w → spelling v ≡ spelling w → v ≡ w }
 {}

@@ -1,4 +1,4 @@
-ghost use Rattle.std.specs.Prelude.{◌≡◌, ◌<◌, ◌≤◌, ◌+◌, ℕ, [], length, map, All, IfOk, IsErrOf, OnOk, Some};
+ghost use Rattle.std.specs.Prelude.{◌≡◌, ◌<◌, ◌≤◌, ◌+◌, ℕ, [], length, map, IfOk, IsErrOf, OnOk, Some};
 ghost use Rattle.std.specs.List.{AllByRecursion};
 ghost use Rattle.rnv_forge.specs.declared.refusal.Refusal.{Refusal as Cause};
 ghost use Rattle.rnv_forge.specs.Store.{ArePermitted, IsSoundStore, after};
@@ -83,11 +83,6 @@ pub(crate) fn names_of(alloc: Global, repos: &[Indexed]) -> Result<List<Text>, A
     Ok(names)
 }
 
-// Bytes are below 256.
-fn are_bytes(bytes: &[u8])
-    ensures { All (λ b. b < 256) bytes.now }
-{}
-
 // The byte string that spells an orderly write.
 fn payload_of(alloc: Global, write: &Write) -> Result<Bytes, AllocError>
     requires { IsOrderly write.now }
@@ -97,7 +92,6 @@ fn payload_of(alloc: Global, write: &Write) -> Result<Bytes, AllocError>
 {
     has_texts(write);
     let payload = spell(alloc, write)?;
-    are_bytes(payload.as_slice());
     Ok(payload)
 }
 

@@ -11,11 +11,11 @@ returns-then-is_orderly-clause-read c =
 
 pub returns-then-is_orderly-clause-only : goal.returns-then-is_orderly-clause-only
 returns-then-is_orderly-clause-only c write fits spelled =
-    sym c.in-Ok.ensures ∙ whole_again c.args.bytes.now write (λ i. omega (arith, c.type_inv.bytes i)) fits.texts spelled
+    sym c.in-Ok.ensures ∙ whole_again c.args.bytes.now write fits.texts spelled
 
 pub returns-else-is_orderly-clause-only : goal.returns-else-is_orderly-clause-only
 returns-else-is_orderly-clause-only c write fits spelled =
-    let again = whole_again c.args.bytes.now write (λ i. omega (arith, c.type_inv.bytes i)) fits.texts spelled in
+    let again = whole_again c.args.bytes.now write fits.texts spelled in
     let same : c.in-Ok.write ≡ write = some_is c.in-Ok.write write (sym c.in-Ok.ensures ∙ again) in
     let orderly : IsOrderly c.in-Ok.write = rw same fits.orderly in
     let yes' = c.is_orderly.ensures.1 orderly in
@@ -23,4 +23,4 @@ returns-else-is_orderly-clause-only c write fits spelled =
 
 pub returns-in-Err-NotSpelled-clause-only : goal.returns-in-Err-NotSpelled-clause-only
 returns-in-Err-NotSpelled-clause-only c write fits spelled =
-    sym (rw c.in-Err-NotSpelled.field-0-is at c.in-Err-NotSpelled.ensures) ∙ whole_again c.args.bytes.now write (λ i. omega (arith, c.type_inv.bytes i)) fits.texts spelled
+    sym (rw c.in-Err-NotSpelled.field-0-is at c.in-Err-NotSpelled.ensures) ∙ whole_again c.args.bytes.now write fits.texts spelled

@@ -12,7 +12,7 @@ returns-in-Ok-clause-added c =
     let fits = subst (λ (o : Option Write). IfSome o (λ w. IsWellFormed w × (payload ≡ spelling w))) c.in-Ok-Some.field-0-is c.in-Ok-Some.ensures.read in
     record {
       write = c.in-Ok-Some.write;
-      read = whole_again payload c.in-Ok-Some.write (λ i. omega (arith, c.type_inv.payload i)) fits.0.texts fits.1;
+      read = whole_again payload c.in-Ok-Some.write fits.0.texts fits.1;
       spells = fits.1;
       well_formed = fits.0;
       permitted = c.in-Ok.ensures.permitted;
