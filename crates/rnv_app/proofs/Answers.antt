@@ -1,10 +1,9 @@
 -- What the words of a command tell of its answer.
 use Rattle.std.specs.Result.{IfErr, IfOk}
-use Rattle.std.proofs.Common.{◌≡◌, ◌≢◌, ◌⊎◌, inl, inr, ℕ, List, [], ◌∷◌, ◌++◌, length, get_or, take, Result, Ok, Err, IsErrOf, ◌↔◌, sym, subst, ◌∙◌, ap, refl, arith, codes}
+use Rattle.std.proofs.Common.{◌≡◌, ◌≢◌, ◌⊎◌, inl, inr, ℕ, List, [], ◌∷◌, length, get_or, Result, Ok, Err, IsErrOf, ◌↔◌, sym, subst, ◌∙◌, ap, refl, arith, codes}
 use Rattle.rnv_base.specs.Causes.{Rose, FaultsBy}
 use Rattle.rnv_base.specs.Files.{NamedFile}
 use Rattle.rnv_base.specs.Moment.{IsMomentText}
-use Rattle.rnv_disk.specs.Stops.{Past}
 use Rattle.rnv_journal.specs.Readings.{KeepsReadings}
 use Rattle.rnv_commands.proofs.Stops.{or_import}
 use Rattle.rnv_plan.specs.declared.item.Item.{Item}
@@ -15,16 +14,20 @@ use Rattle.rnv_plan.specs.Refusal.{IfTold}
 use Rattle.rnv_plan.proofs.Bases.{plan-one}
 use Rattle.rnv_commands.specs.declared.error.CommandError.{CommandError}
 use Rattle.rnv_commands.specs.declared.error.CommandError.TheVariants as command
+use Rattle.rnv_run.specs.declared.on_disk.RunRefusal.{RunRefusal}
+use Rattle.rnv_run.specs.declared.on_disk.RunRefusal.TheVariants as of_run
 use Rattle.rnv_app.specs.declared.end.Refusal.{Refusal}
 use Rattle.rnv_app.specs.declared.end.Refusal.TheVariants.{Memory, Usage, UnknownRepo, FolderFault, DiskFault, NotAJournal, Limit, IndexRefused, NotBuilt}
 use Rattle.rnv_app.specs.declared.words.Words.{Words}
 use Rattle.rnv_app.specs.declared.words.WordsError.{WordsError}
 use Rattle.rnv_app.specs.declared.words.WordsError.TheVariants.{Usage as words_usage, Memory as words_memory}
-use Rattle.rnv_app.specs.Words.{IsCommand, IsImport, IsPlan, IsShow, IsUsage}
+use Rattle.rnv_app.specs.Words.{IsCommand, IsImport, IsPlan, IsRun, IsShow, IsTimed, IsUsage}
 use Rattle.rnv_app.specs.Text.{plan_text}
-use Rattle.rnv_app.specs.End.{code_of, plan_refusal_of, refusal_of, status_of, IsCause, IsCauseOr, IsLine, IsTold}
-use Rattle.rnv_app.specs.Top.{refusing, HasPlan, HasNoPlan, Imports, IsAnswered, IsForImport, IsForNone, IsForPlan, IsForShow, IsImportEnd, IsFree, IsNamed, IsOfPlan, IsPrinted, IsPrintedInPart, IsRefusedWith, IsShowEnd, IsShowing, Sight, Tells}
-use Rattle.rnv_app.proofs.Four.{one-repo}
+use Rattle.rnv_app.specs.End.{code_of, plan_refusal_of, refusal_of, status_of, IsCause, IsCauseOr, IsTold}
+use Rattle.rnv_app.specs.Top.{refusing, running, HasPlan, HasNoPlan, Imports, IsAnswered, IsForPlan, IsImportEnd, IsFree, IsNamed, IsOfPlan, IsPrinted, IsPrintedInPart, IsRefusedWith, IsRunEnd, IsShowEnd, IsShowing, Sight, Tells}
+use Rattle.rnv_run.specs.OnDisk.{Runs}
+use Rattle.rnv_run.proofs.Disks.{runs_none}
+use Rattle.rnv_app.proofs.Four.{one-repo, one_time}
 use Rattle.rnv_app.proofs.Ends.{Answer, done_at, part_at, usage_at}
 
 pub has_plan : (words : List (List ℕ)) (files : List NamedFile) (text repo : List ℕ) (now : ℕ) (items : List Item) → IsPlan words repo now → IsPlanned repo files items → ((error : RunError) → ¬ (IsPlanRefusal repo files error)) → (time : List ℕ) × IsMomentText time now × (text ≡ plan_text time items) → HasPlan words files text
@@ -84,8 +87,15 @@ plan_fault (run.IndexRefused file line) e = cc
 
 -- words ask for one thing
 
-not_both : (words : List (List ℕ)) (repo : List ℕ) (now : ℕ) (name other : List ℕ) → IsPlan words repo now → ¬ (IsCommand name words other)
-not_both words repo now name other plan two = absurd (omega (arith, ap length plan.four, ap length two.two))
+not_both : (words : List (List ℕ)) (command repo : List ℕ) (now : ℕ) (name other : List ℕ) → IsTimed command words repo now → ¬ (IsCommand name words other)
+not_both words command repo now name other timed two = absurd (omega (arith, ap length timed.four, ap length two.two))
+
+one_timed : (words : List (List ℕ)) (command repo command' repo' : List ℕ) (now now' : ℕ) → IsTimed command words repo now → IsTimed command' words repo' now' → command ≡ command'
+one_timed words command repo command' repo' now now' a b =
+    ap (λ (l : List (List ℕ)). get_or l 0 []) (sym a.four ∙ b.four)
+
+not_run : (words : List (List ℕ)) (repo repo' : List ℕ) (now now' : ℕ) → IsPlan words repo now → ¬ (IsRun words repo' now')
+not_run words repo repo' now now' a b = absurd (omega (arith, ap length (one_timed words (codes "plan") repo (codes "run") repo' now now' a b)))
 
 one_command : (words : List (List ℕ)) (name repo name' repo' : List ℕ) → IsCommand name words repo → IsCommand name' words repo' → (name ≡ name') × (repo ≡ repo')
 one_command words name repo name' repo' a b =
@@ -115,6 +125,18 @@ not_own command.DiskFault own = own
 not_own (command.NotAJournal offset) own = own
 not_own (command.Limit which number) own = own
 
+-- a run is no misuse of words
+run_never : (answer : Result (List ℕ) RunRefusal) → ¬ (running answer ≡ Err Usage)
+run_never (Ok text) e = absurd (cc e)
+run_never (Err (of_run.NotAJournal offset)) e = absurd (cc e)
+run_never (Err (of_run.Ended run.Memory)) e = absurd (cc e)
+run_never (Err (of_run.Ended run.FolderFault)) e = absurd (cc e)
+run_never (Err (of_run.Ended run.DiskFault)) e = absurd (cc e)
+run_never (Err (of_run.Ended run.UnknownRepo)) e = absurd (cc e)
+run_never (Err (of_run.Ended (run.NotBuilt path))) e = absurd (cc e)
+run_never (Err (of_run.Ended (run.Limit which number))) e = absurd (cc e)
+run_never (Err (of_run.Ended (run.IndexRefused file line))) e = absurd (cc e)
+
 abbrev first_refusal : Answer → Refusal → Refusal
 first_refusal (Ok text) other = other
 first_refusal (Err refusal) other = refusal
@@ -138,9 +160,10 @@ module _ (s : Sight) (words : List (List ℕ)) (text : Answer) (answered : IsAns
 
   plan_or_none : (repo : List ℕ) (now : ℕ) → IsPlan words repo now → IsAnswered s words text → IsPlanOrNone
   plan_or_none repo now asked (inl p) = inl p
-  plan_or_none repo now asked (inr (inl i)) = absurd (not_both words repo now (codes "import") i.repo asked i.asked)
-  plan_or_none repo now asked (inr (inr (inl i))) = absurd (not_both words repo now (codes "show") i.repo asked i.asked)
-  plan_or_none repo now asked (inr (inr (inr n))) = none_then n.refused
+  plan_or_none repo now asked (inr (inl i)) = absurd (not_both words (codes "plan") repo now (codes "import") i.repo asked i.asked)
+  plan_or_none repo now asked (inr (inr (inl i))) = absurd (not_both words (codes "plan") repo now (codes "show") i.repo asked i.asked)
+  plan_or_none repo now asked (inr (inr (inr (inl r)))) = absurd (not_run words repo r.repo now r.now asked r.asked)
+  plan_or_none repo now asked (inr (inr (inr (inr n)))) = none_then n.refused
     where
       none_then : ((text ≡ Err Usage) × IsUsage words) ⊎ ((text ≡ Err Memory) × ¬ (IsUsage words)) → IsPlanOrNone
       none_then (inl u) = absurd (u.1.plan repo now asked)
@@ -165,7 +188,8 @@ module _ (s : Sight) (words : List (List ℕ)) (text : Answer) (answered : IsAns
   usage_then e (inl p) = absurd (subst (λ (a : Answer). IfErr a IsOfPlan) e p.plain)
   usage_then e (inr (inl i)) = absurd (own_never i.answer Usage tt (sym i.is ∙ e))
   usage_then e (inr (inr (inl i))) = absurd (own_never i.answer Usage tt (sym i.is ∙ e))
-  usage_then e (inr (inr (inr n))) = none_then n.refused
+  usage_then e (inr (inr (inr (inl r)))) = absurd (run_never r.answer (sym r.is ∙ e))
+  usage_then e (inr (inr (inr (inr n)))) = none_then n.refused
     where
       none_then : ((text ≡ Err Usage) × IsUsage words) ⊎ ((text ≡ Err Memory) × ¬ (IsUsage words)) → IsUsage words
       none_then (inl u) = u.1
@@ -175,7 +199,8 @@ module _ (s : Sight) (words : List (List ℕ)) (text : Answer) (answered : IsAns
   usage_text u (inl p) = absurd (u.plan p.repo p.now p.asked)
   usage_text u (inr (inl i)) = absurd (u.import i.repo i.asked)
   usage_text u (inr (inr (inl i))) = absurd (u.show i.repo i.asked)
-  usage_text u (inr (inr (inr n))) = none_then n.refused
+  usage_text u (inr (inr (inr (inl r)))) = absurd (u.run r.repo r.now r.asked)
+  usage_text u (inr (inr (inr (inr n)))) = none_then n.refused
     where
       none_then : ((text ≡ Err Usage) × IsUsage words) ⊎ ((text ≡ Err Memory) × ¬ (IsUsage words)) → text ≡ Err Usage
       none_then (inl k) = k.0
@@ -321,10 +346,11 @@ module _ (s : Sight) (words : List (List ℕ)) (text : Answer) (answered : IsAns
         none_then keeps (inr m) = end (Err command.Memory) m.0 (imports_none repo keeps)
 
         the : IsAnswered s words text → IsImportEnd s repo tells before after faults now code
-        the (inl p) = absurd (not_both words p.repo p.now (codes "import") repo p.asked asked)
+        the (inl p) = absurd (not_both words (codes "plan") p.repo p.now (codes "import") repo p.asked asked)
         the (inr (inl i)) = end i.answer i.is (subst (λ (r : List ℕ). Imports s r i.answer) (one_command words (codes "import") i.repo (codes "import") repo i.asked asked).1 i.imports)
         the (inr (inr (inl i))) = absurd (not_show words repo i.repo asked i.asked)
-        the (inr (inr (inr n))) = none_then n.keeps n.refused
+        the (inr (inr (inr (inl r)))) = absurd (not_both words (codes "run") r.repo r.now (codes "import") repo r.asked asked)
+        the (inr (inr (inr (inr n)))) = none_then n.keeps n.refused
 
     pub show_is : (repo : List ℕ) → IsShow words repo → IsShowEnd s repo tells before after faults now code
     show_is repo asked = the answered
@@ -337,10 +363,31 @@ module _ (s : Sight) (words : List (List ℕ)) (text : Answer) (answered : IsAns
         none_then keeps (inr m) = end (Err command.Memory) m.0 (shows_none repo keeps)
 
         the : IsAnswered s words text → IsShowEnd s repo tells before after faults now code
-        the (inl p) = absurd (not_both words p.repo p.now (codes "show") repo p.asked asked)
+        the (inl p) = absurd (not_both words (codes "plan") p.repo p.now (codes "show") repo p.asked asked)
         the (inr (inl i)) = absurd (not_show words i.repo repo i.asked asked)
         the (inr (inr (inl i))) = end i.answer i.is (subst (λ (r : List ℕ). IsShowing s r i.answer) (one_command words (codes "show") i.repo (codes "show") repo i.asked asked).1 i.showing)
-        the (inr (inr (inr n))) = none_then n.keeps n.refused
+        the (inr (inr (inr (inl r)))) = absurd (not_both words (codes "run") r.repo r.now (codes "show") repo r.asked asked)
+        the (inr (inr (inr (inr n)))) = none_then n.keeps n.refused
+
+    pub run_is : (repo : List ℕ) (at : ℕ) → IsRun words repo at → IsRunEnd s repo at tells before after faults now code
+    run_is repo at asked = the answered
+      where
+        end : (answer : Result (List ℕ) RunRefusal) → text ≡ running answer → Runs s.folder_tells s.files s.disk_tells s.file s.entry s.exit repo at answer → IsRunEnd s repo at tells before after faults now code
+        end answer e r = record { answer = answer; told = told_as (running answer) e; runs = r }
+
+        none_then : KeepsReadings 268435456 s.entry s.exit → ((text ≡ Err Usage) × IsUsage words) ⊎ ((text ≡ Err Memory) × ¬ (IsUsage words)) → IsRunEnd s repo at tells before after faults now code
+        none_then keeps (inl u) = absurd (u.1.run repo at asked)
+        none_then keeps (inr m) = end (Err (of_run.Ended run.Memory)) m.0 (runs_none s.folder_tells s.files s.disk_tells s.file s.entry s.exit repo at keeps)
+
+        the : IsAnswered s words text → IsRunEnd s repo at tells before after faults now code
+        the (inl p) = absurd (not_run words p.repo repo p.now at p.asked asked)
+        the (inr (inl i)) = absurd (not_both words (codes "run") repo at (codes "import") i.repo asked i.asked)
+        the (inr (inr (inl i))) = absurd (not_both words (codes "run") repo at (codes "show") i.repo asked i.asked)
+        the (inr (inr (inr (inl r)))) =
+            let same = one_time words (codes "run") r.repo repo r.now at r.asked asked in
+            end r.answer r.is (subst (λ (n : ℕ). Runs s.folder_tells s.files s.disk_tells s.file s.entry s.exit repo n r.answer) same.1
+            (subst (λ (n : List ℕ). Runs s.folder_tells s.files s.disk_tells s.file s.entry s.exit n r.now r.answer) same.0 r.runs))
+        the (inr (inr (inr (inr n)))) = none_then n.keeps n.refused
 
 -- a refusal of a command over the store, as the program's
 
@@ -381,3 +428,27 @@ tells_of words files (Err refusal) plan memory = subst (λ (r : Refusal). Tells 
 pub plain_of : (answer : Answer) → IfErr answer (λ refusal. refusal ≡ Memory) → IfErr answer IsOfPlan
 plain_of (Ok text) memory = tt
 plain_of (Err refusal) memory = subst IsOfPlan (sym memory) tt
+
+-- a refusal of a run, as the program's
+
+pub run_folder_of : (answer : Result (List ℕ) RunRefusal) → IsErrOf (running answer) FolderFault → IsErrOf answer (of_run.Ended run.FolderFault)
+run_folder_of (Ok text) is = absurd (cc is)
+run_folder_of (Err (of_run.NotAJournal offset)) is = absurd (cc is)
+run_folder_of (Err (of_run.Ended run.Memory)) is = absurd (cc is)
+run_folder_of (Err (of_run.Ended run.FolderFault)) is = refl
+run_folder_of (Err (of_run.Ended run.DiskFault)) is = absurd (cc is)
+run_folder_of (Err (of_run.Ended run.UnknownRepo)) is = absurd (cc is)
+run_folder_of (Err (of_run.Ended (run.NotBuilt path))) is = absurd (cc is)
+run_folder_of (Err (of_run.Ended (run.Limit which number))) is = absurd (cc is)
+run_folder_of (Err (of_run.Ended (run.IndexRefused file line))) is = absurd (cc is)
+
+pub run_disk_of : (answer : Result (List ℕ) RunRefusal) → IsErrOf (running answer) DiskFault → IsErrOf answer (of_run.Ended run.DiskFault)
+run_disk_of (Ok text) is = absurd (cc is)
+run_disk_of (Err (of_run.NotAJournal offset)) is = absurd (cc is)
+run_disk_of (Err (of_run.Ended run.Memory)) is = absurd (cc is)
+run_disk_of (Err (of_run.Ended run.FolderFault)) is = absurd (cc is)
+run_disk_of (Err (of_run.Ended run.DiskFault)) is = refl
+run_disk_of (Err (of_run.Ended run.UnknownRepo)) is = absurd (cc is)
+run_disk_of (Err (of_run.Ended (run.NotBuilt path))) is = absurd (cc is)
+run_disk_of (Err (of_run.Ended (run.Limit which number))) is = absurd (cc is)
+run_disk_of (Err (of_run.Ended (run.IndexRefused file line))) is = absurd (cc is)

@@ -1,11 +1,15 @@
 -- What each status tells, from what was told of a text or a refusal.
-use Rattle.std.specs.Result.{IfErr}
 use Rattle.std.specs.Option.{IfSome}
-use Rattle.std.proofs.Common.{◌≡◌, ◌≢◌, ◌⊎◌, inl, inr, ℕ, ◌≤◌, List, ◌++◌, take, Result, Ok, Err, IsErrOf, ◌↔◌, sym, subst, ◌∙◌, ap, refl, arith}
-use Rattle.rnv_base.specs.Causes.{Rose, FaultsBy}
+use Rattle.std.proofs.Common.{◌≡◌, ◌≢◌, ◌⊎◌, inl, inr, ℕ, List, ◌++◌, take, Result, Ok, Err, IsErrOf, sym, subst, ◌∙◌, ap, refl, arith}
+use Rattle.rnv_base.specs.Causes.{Rose}
+use Rattle.rnv_plan.specs.declared.error.RunError.TheVariants as run
+use Rattle.rnv_run.specs.declared.on_disk.RunRefusal.{RunRefusal}
+use Rattle.rnv_run.specs.declared.on_disk.RunRefusal.TheVariants as of_run
+use Rattle.rnv_run.specs.OnDisk.{Runs}
+use Rattle.rnv_app.specs.Top.{running, IsFreeRun, IsRunEnd, Sight}
 use Rattle.rnv_app.specs.declared.end.Refusal.{Refusal}
 use Rattle.rnv_app.specs.declared.end.Refusal.TheVariants.{Memory, Usage, UnknownRepo, FolderFault, DiskFault, NotAJournal, Limit, IndexRefused, NotBuilt}
-use Rattle.rnv_app.specs.End.{code_of, refusal_text, line_of, IsLine, IsStatus, IsTold, IsWritten, IsWrittenInPart, IsRefused}
+use Rattle.rnv_app.specs.End.{code_of, refusal_text, line_of, IsLine, IsStatus, IsTold}
 
 abbrev pub Answer : Type 0
 Answer = Result (List ℕ) Refusal
@@ -133,3 +137,20 @@ module _ (tells : Type 0) (before after : List ℕ) (faults now : ℕ) where
 
 pub error_of : (answer : Answer) (refusal : Refusal) → answer ≡ Err refusal → IsErrOf answer refusal
 error_of answer refusal e = subst (λ (a : Answer). IsErrOf a refusal) (sym e) refl
+
+-- a run without a cause of a refusal and without a fault
+pub run_complete : (s : Sight) (repo : List ℕ) (moment : ℕ) (tells : Type 0) (before after : List ℕ) (faults now code : ℕ) (Folds Disks : Type 0) → IsRunEnd s repo moment tells before after faults now code → s.folder_tells → s.disk_tells
+    → IsFreeRun s.files repo moment s.file → (code ≡ 5 → Folds) → (code ≡ 7 → Disks) → ¬ Folds → ¬ Disks → ¬ (Rose faults now) → (code ≡ 0) ⊎ (code ≡ 1)
+run_complete s repo moment tells before after faults now code Folds Disks end t d free five seven folder disk still = by end.answer end.told end.runs
+  where
+    by : (answer : Result (List ℕ) RunRefusal) → IsTold tells before after faults now (running answer) code → Runs s.folder_tells s.files s.disk_tells s.file s.entry s.exit repo moment answer → (code ≡ 0) ⊎ (code ≡ 1)
+    by (Ok text) (inl w) runs = inl w.status
+    by (Ok text) (inr p) runs = absurd (still p.rose)
+    by (Err (of_run.NotAJournal offset)) r runs = absurd (free.whole offset (runs.refused t d))
+    by (Err (of_run.Ended run.Memory)) r runs = inr r.status
+    by (Err (of_run.Ended run.FolderFault)) r runs = absurd (folder (five r.status))
+    by (Err (of_run.Ended run.DiskFault)) r runs = absurd (disk (seven r.status))
+    by (Err (of_run.Ended run.UnknownRepo)) r runs = absurd (free.free run.UnknownRepo (runs.refused t d))
+    by (Err (of_run.Ended (run.NotBuilt path))) r runs = absurd (free.free (run.NotBuilt path) (runs.refused t d))
+    by (Err (of_run.Ended (run.Limit which number))) r runs = absurd (free.free (run.Limit which number) (runs.refused t d))
+    by (Err (of_run.Ended (run.IndexRefused file line))) r runs = absurd (free.free (run.IndexRefused file line) (runs.refused t d))

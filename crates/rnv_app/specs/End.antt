@@ -9,6 +9,8 @@ use Rattle.rnv_commands.specs.declared.error.CommandError.{CommandError}
 use Rattle.rnv_commands.specs.declared.error.CommandError.TheVariants as command
 use Rattle.rnv_plan.specs.declared.error.RunError.{RunError}
 use Rattle.rnv_plan.specs.declared.error.RunError.TheVariants as run
+use Rattle.rnv_run.specs.declared.on_disk.RunRefusal.{RunRefusal}
+use Rattle.rnv_run.specs.declared.on_disk.RunRefusal.TheVariants as of_run
 
 -- the status of a refusal
 abbrev pub code_of : Refusal → ℕ
@@ -31,7 +33,7 @@ refusal_of command.DiskFault = DiskFault
 refusal_of (command.NotAJournal offset) = NotAJournal offset
 refusal_of (command.Limit which number) = Limit which number
 
--- the refusal of a plan, and its status
+-- the refusal of a plan or a run, and its status
 abbrev pub plan_refusal_of : RunError → Refusal
 plan_refusal_of run.Memory = Memory
 plan_refusal_of run.FolderFault = FolderFault
@@ -43,6 +45,11 @@ plan_refusal_of (run.NotBuilt path) = NotBuilt path
 
 abbrev pub status_of : RunError → ℕ
 status_of error = code_of (plan_refusal_of error)
+
+-- the refusal of a run over a disk
+abbrev pub run_refusal_of : RunRefusal → Refusal
+run_refusal_of (of_run.NotAJournal offset) = NotAJournal offset
+run_refusal_of (of_run.Ended error) = plan_refusal_of error
 
 abbrev pub not_yet : List ℕ
 not_yet = codes " is not built yet" ++ 10 ∷ []

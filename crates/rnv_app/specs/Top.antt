@@ -2,7 +2,7 @@
 use Rattle.std.specs.Prelude.{◌≡◌, ◌≢◌, ◌⊎◌, ℕ, List, ◌++◌, take, Result, Ok, Err, IfErr, IfOk}
 use Rattle.rnv_base.specs.Files.{NamedFile}
 use Rattle.rnv_base.specs.Moment.{IsMomentText}
-use Rattle.rnv_commands.specs.OnDisk.{HasImported, IsNotImported, IsNotShown, IsReadingOrImport, IsShownOf}
+use Rattle.rnv_commands.specs.OnDisk.{IsDamaged, HasImported, IsNotImported, IsNotShown, IsReadingOrImport, IsShownOf}
 use Rattle.rnv_commands.specs.declared.error.CommandError.{CommandError}
 use Rattle.rnv_commands.specs.declared.error.CommandError.TheVariants.{DiskFault as disk_fault}
 use Rattle.rnv_disk.specs.Stops.{Past}
@@ -11,11 +11,13 @@ use Rattle.rnv_plan.specs.declared.item.Item.{Item}
 use Rattle.rnv_plan.specs.declared.error.RunError.{RunError}
 use Rattle.rnv_plan.specs.declared.error.RunError.TheVariants as run
 use Rattle.rnv_plan.specs.Plan.{IsPlanned, IsPlanRefusal}
+use Rattle.rnv_run.specs.declared.on_disk.RunRefusal.{RunRefusal}
+use Rattle.rnv_run.specs.OnDisk.{IsRefusedIn, Runs}
 use Rattle.rnv_app.specs.declared.end.Refusal.{Refusal}
 use Rattle.rnv_app.specs.declared.end.Refusal.TheVariants.{Memory, Usage, UnknownRepo, FolderFault, DiskFault, NotAJournal, Limit, IndexRefused, NotBuilt}
-use Rattle.rnv_app.specs.Words.{IsImport, IsPlan, IsShow, IsUsage}
+use Rattle.rnv_app.specs.Words.{IsImport, IsPlan, IsRun, IsShow, IsUsage}
 use Rattle.rnv_app.specs.Text.{plan_text}
-use Rattle.rnv_app.specs.End.{plan_refusal_of, refusal_of, refusal_text, status_of, IsLine, IsTold}
+use Rattle.rnv_app.specs.End.{plan_refusal_of, refusal_of, refusal_text, run_refusal_of, status_of, IsLine, IsTold}
 
 -- plan
 
@@ -140,6 +142,24 @@ pub record IsShowEnd (s : Sight) (repo : List ℕ) (out_tells : Type 0) (before 
   pub told : IsTold out_tells before after faults now (refusing answer) code
   pub showing : IsShowing s repo answer
 
+-- run
+
+-- the text of a run, or its refusal as the program's
+abbrev pub running : Result (List ℕ) RunRefusal → Result (List ℕ) Refusal
+running (Ok text) = Ok text
+running (Err refusal) = Err (run_refusal_of refusal)
+
+-- A run, its status and what is written: the answer's text with 0, a front part of it with 10, or its refusal's status and line.
+pub record IsRunEnd (s : Sight) (repo : List ℕ) (moment : ℕ) (out_tells : Type 0) (before after : List ℕ) (faults now : ℕ) (code : ℕ) : Type 0 where
+  pub answer : Result (List ℕ) RunRefusal
+  pub told : IsTold out_tells before after faults now (running answer) code
+  pub runs : Runs s.folder_tells s.files s.disk_tells s.file s.entry s.exit repo moment answer
+
+-- the file of the disk is a store, and neither it nor the folder's files are the cause of a refusal of a run
+pub record IsFreeRun (files : List NamedFile) (repo : List ℕ) (moment : ℕ) (file : List ℕ) : Type 0 where
+  pub whole : (offset : ℕ) → ¬ (IsDamaged 268435456 file offset)
+  pub free : (error : RunError) → ¬ (IsRefusedIn files repo moment 268435456 file error)
+
 -- the text or refusal that the words give
 
 pub record IsForPlan (s : Sight) (words : List (List ℕ)) (text : Result (List ℕ) Refusal) : Type 0 where
@@ -164,10 +184,18 @@ pub record IsForShow (s : Sight) (words : List (List ℕ)) (text : Result (List 
   pub is : text ≡ refusing answer
   pub showing : IsShowing s repo answer
 
+pub record IsForRun (s : Sight) (words : List (List ℕ)) (text : Result (List ℕ) Refusal) : Type 0 where
+  pub repo : List ℕ
+  pub now : ℕ
+  pub asked : IsRun words repo now
+  pub answer : Result (List ℕ) RunRefusal
+  pub is : text ≡ running answer
+  pub runs : Runs s.folder_tells s.files s.disk_tells s.file s.entry s.exit repo now answer
+
 pub record IsForNone (s : Sight) (words : List (List ℕ)) (text : Result (List ℕ) Refusal) : Type 0 where
   pub same : s.same_disk
   pub keeps : KeepsReadings 268435456 s.entry s.exit
   pub refused : ((text ≡ Err Usage) × IsUsage words) ⊎ ((text ≡ Err Memory) × ¬ (IsUsage words))
 
 abbrev pub IsAnswered : Sight → List (List ℕ) → Result (List ℕ) Refusal → Type 0
-IsAnswered s words text = IsForPlan s words text ⊎ (IsForImport s words text ⊎ (IsForShow s words text ⊎ IsForNone s words text))
+IsAnswered s words text = IsForPlan s words text ⊎ (IsForImport s words text ⊎ (IsForShow s words text ⊎ (IsForRun s words text ⊎ IsForNone s words text)))

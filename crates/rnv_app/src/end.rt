@@ -1,9 +1,10 @@
 ghost use Rattle.std.specs.Prelude.{◌≡◌};
-ghost use Rattle.rnv_app.specs.End.{code_of, plan_refusal_of, refusal_of};
+ghost use Rattle.rnv_app.specs.End.{code_of, plan_refusal_of, refusal_of, run_refusal_of};
 
 use rnv_base::Text;
 use rnv_commands::CommandError;
 use rnv_plan::RunError;
+use rnv_run::RunRefusal;
 
 /// Why the program printed nothing but this.
 #[derive(Debug, Drop)]
@@ -62,7 +63,7 @@ pub fn refusal_of(error: CommandError) -> Refusal
     }
 }
 
-/// The refusal of a plan.
+/// The refusal of a plan, or of a run within it.
 pub fn plan_refusal_of(error: RunError) -> Refusal
     ensures { result ≡ plan_refusal_of error }
 {
@@ -74,5 +75,15 @@ pub fn plan_refusal_of(error: RunError) -> Refusal
         RunError::Limit { which, number } => Refusal::Limit { which, number },
         RunError::IndexRefused { file, line } => Refusal::IndexRefused { file, line },
         RunError::NotBuilt { path } => Refusal::NotBuilt { path },
+    }
+}
+
+/// The refusal of a run over a disk.
+pub fn run_refusal_of(refusal: RunRefusal) -> Refusal
+    ensures { result ≡ run_refusal_of refusal }
+{
+    match refusal {
+        RunRefusal::NotAJournal { offset } => Refusal::NotAJournal { offset },
+        RunRefusal::Ended { error } => plan_refusal_of(error),
     }
 }

@@ -135,10 +135,18 @@ fn write_place<K: Sink>(out: &mut K, file: &[u8], line: u64)
     ensures line { K.tells → IsLine (K.held out.old) (K.held out.new) (K.faults out.old) (K.faults out.new) (file.now ++ (codes " line " ++ (decimal line ++ 10 ∷ []))) }
     ensures later { K.faults out.old ≤ K.faults out.new }
 {
-    let mut buffer = Buffer::new();
-    let digits = buffer.format(line);
     match write_all(out, file) {
-        Ok(()) => write_three(out, b" line ", digits.as_bytes(), b"\n"),
+        Ok(()) => write_row(out, line),
         Err(_) => {}
     }
+}
+
+// Writes the number of a line of a file, at the end of that line.
+fn write_row<K: Sink>(out: &mut K, line: u64)
+    ensures line { K.tells → IsLine (K.held out.old) (K.held out.new) (K.faults out.old) (K.faults out.new) (codes " line " ++ (decimal line ++ 10 ∷ [])) }
+    ensures later { K.faults out.old ≤ K.faults out.new }
+{
+    let mut buffer = Buffer::new();
+    let digits = buffer.format(line);
+    write_three(out, b" line ", digits.as_bytes(), b"\n")
 }

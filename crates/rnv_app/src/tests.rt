@@ -237,6 +237,8 @@ fn refuses_other_words(rt: HostRuntime) -> Result<(), Fail> {
         "show acme/web again",
         "import acme/web --now 2024-06-03T10:15:00Z",
         "imports acme/web",
+        "runs acme/web --now 2024-06-03T10:15:00Z",
+        "run acme --now 2024-06-03T10:15:00Z",
         "run acme/web",
         "plan acme/web --now 2024-06-03T10:15:00Z again",
     ] {

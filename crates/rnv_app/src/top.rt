@@ -2,14 +2,14 @@ ghost use Rattle.std.specs.Prelude.{◌≡◌, ◌↔◌, ◌⊎◌, ◌≤◌, 
 ghost use Rattle.rnv_base.specs.Causes.{Rose, FaultsBy};
 ghost use Rattle.rnv_base.specs.Files.{NamedFile};
 ghost use Rattle.rnv_app.specs.End.{line_of, status_of, IsCause, IsCauseOr, IsLine, IsStatus, IsTold};
-ghost use Rattle.rnv_app.specs.Top.{refusing, HasNoPlan, HasPlan, IsAnswered, IsForImport, IsForShow, IsFree, IsImportEnd, IsNamed, IsOfPlan, IsPrinted, IsPrintedInPart, IsRefusedWith, IsShowEnd, Tells};
-ghost use Rattle.rnv_app.specs.Words.{IsImport, IsPlan, IsShow, IsUsage};
+ghost use Rattle.rnv_app.specs.Top.{refusing, HasNoPlan, HasPlan, IsAnswered, IsForImport, IsForShow, IsFree, IsFreeRun, IsImportEnd, IsNamed, IsOfPlan, IsPrinted, IsPrintedInPart, IsRefusedWith, IsForRun, IsRunEnd, IsShowEnd, Tells, running};
+ghost use Rattle.rnv_app.specs.Words.{IsImport, IsPlan, IsRun, IsShow, IsUsage};
 ghost use Rattle.rnv_app.specs.declared.end.Refusal.{Refusal as Cause};
 ghost use Rattle.rnv_app.specs.declared.end.Refusal.TheVariants.{DiskFault as disk_fault, FolderFault as folder_fault, Memory as no_memory};
 ghost use Rattle.rnv_plan.specs.declared.error.RunError.{RunError as Error};
 ghost use Rattle.rnv_plan.specs.Plan.{IsPlanned, IsPlanRefusal};
 
-use crate::end::{plan_refusal_of, refusal_of};
+use crate::end::{plan_refusal_of, refusal_of, run_refusal_of};
 use crate::plan_text::plan_text;
 use crate::report::tell;
 use crate::{Refusal, Words, WordsError};
@@ -17,6 +17,7 @@ use rnv_base::{Folder, List, Sink, Text};
 use rnv_commands::{Answer, CommandError, import_on, show_on};
 use rnv_disk::Disk;
 use rnv_plan::{Item, plan_folder};
+use rnv_run::{RunAnswer, RunRefusal, run_on};
 use std::alloc::Global;
 use std::convert::AsStr;
 
@@ -49,6 +50,9 @@ pub struct Ended<K: Sink, O: Folder, D: Disk> {
 /// each update in item order `PATH PACKAGE OLD -> NEW (KIND) BRANCH`, and `N updates, M branches`; it
 /// does not touch the disk. `import REPO` makes the base of a repository of the store its checked-out
 /// files, by one write or none, and prints `imported N files, revision R` and `passed over P`.
+/// `run REPO --now T` makes the branches and requests of a repository of the store what the rules give
+/// for its base, each change by a write of its own, and prints the moment, a line for each write, and
+/// how many there were; a run that was stopped and is given again does the rest.
 /// `show REPO` prints a repository of the store: its line, one for each branch and each request, and
 /// its page. A refusal other than of the output prints a line `error CODE: TEXT` as far as the output
 /// takes it. The objects of the outside come back in every case.
@@ -86,6 +90,12 @@ pub fn renovate<K: Sink, O: Folder, D: Disk>(
     // What is shown of the store, and what is written of it.
     ensures show { (repo : Items ℕ) → IsShow words.now repo → IsShowEnd (record { folder_tells = O.tells; files = O.files outside.folder; disk_tells = D.tells; file = (D.seen outside.disk).zero; entry = D.past outside.disk; exit = D.past result.outside.disk; same_disk = result.outside.disk ≡ outside.disk })
         repo K.tells (K.held outside.out) (K.held result.outside.out) (K.faults outside.out) (K.faults result.outside.out) result.status.code }
+
+    // What a run makes of the store, also from where an earlier run was stopped, and what is written of it.
+    ensures run { (repo : Items ℕ) (now : ℕ) → IsRun words.now repo now → IsRunEnd (record { folder_tells = O.tells; files = O.files outside.folder; disk_tells = D.tells; file = (D.seen outside.disk).zero; entry = D.past outside.disk; exit = D.past result.outside.disk; same_disk = result.outside.disk ≡ outside.disk })
+        repo now K.tells (K.held outside.out) (K.held result.outside.out) (K.faults outside.out) (K.faults result.outside.out) result.status.code }
+
+    ensures run_complete { (repo : Items ℕ) (now : ℕ) → IsRun words.now repo now → O.tells → D.tells → IsFreeRun (O.files outside.folder) repo now (D.seen outside.disk).zero → ¬ Rose (O.faults outside.folder) (O.faults result.outside.folder) → ¬ Rose (D.faults outside.disk) (D.faults result.outside.disk) → ¬ Rose (K.faults outside.out) (K.faults result.outside.out) → (result.status.code ≡ 0) ⊎ (result.status.code ≡ 1) }
 
     ensures same { O.tells → (O.files result.outside.folder ≡ O.files outside.folder) }
     ensures folder_later { O.faults outside.folder ≤ O.faults result.outside.folder }
@@ -130,6 +140,7 @@ fn answer_to<O: Folder, D: Disk>(
             disk,
         },
         Ok(Words::Import { repo }) => import_for(alloc, words, folder, disk, &repo),
+        Ok(Words::Run { repo, now }) => run_for(alloc, words, folder, disk, &repo, now),
         Ok(Words::Show { repo }) => show_for(alloc, words, folder, disk, &repo),
         Err(error) => Answered {
             text: Err(not_read(error)),
@@ -176,6 +187,38 @@ fn import_for<O: Folder, D: Disk>(
     let Answer { text, disk } = import_on(alloc, disk, folder, repo);
     Answered {
         text: refusing(text),
+        disk,
+    }
+}
+
+fn running(text: Result<List<u8>, RunRefusal>) -> Result<List<u8>, Refusal>
+    ensures { result ≡ running text }
+{
+    match text {
+        Ok(text) => Ok(text),
+        Err(refusal) => Err(run_refusal_of(refusal)),
+    }
+}
+
+// Does the run that the words ask for.
+fn run_for<O: Folder, D: Disk>(
+    alloc: Global,
+    words: &List<Text>,
+    folder: &mut O,
+    disk: D,
+    repo: &Text,
+    now: u64,
+) -> Answered<D>
+    requires { IsRun words.now repo.now now }
+    ensures answered { IsForRun (record { folder_tells = O.tells; files = O.files folder.old; disk_tells = D.tells; file = (D.seen disk).zero; entry = D.past disk; exit = D.past result.disk; same_disk = result.disk ≡ disk }) words.now result.text }
+    ensures same { O.tells → (O.files folder.new ≡ O.files folder.old) }
+    ensures folder_cause { FaultsBy (O.faults folder.old) (O.faults folder.new) result.text folder_fault }
+    ensures disk_cause { FaultsBy (D.faults disk) (D.faults result.disk) result.text disk_fault }
+{
+    let _ = words;
+    let RunAnswer { text, disk } = run_on(alloc, disk, folder, repo, now);
+    Answered {
+        text: running(text),
         disk,
     }
 }

@@ -1,5 +1,5 @@
 ghost use Rattle.std.specs.Prelude.{◌≡◌, ◌↔◌, ◌∷◌, [], ℕ, List as Items, IfOk, IfSome, IfNone, IsErrOf};
-ghost use Rattle.rnv_app.specs.Words.{AreWords, IsAsked, IsImport, IsPlan, IsShow, IsUsage};
+ghost use Rattle.rnv_app.specs.Words.{AreWords, IsAsked, IsImport, IsPlan, IsRun, IsShow, IsUsage};
 ghost use Rattle.rnv_app.specs.declared.words.WordsError.TheVariants.{Usage};
 
 use rnv_base::{List, Share, Text, moment_read, name_ok};
@@ -11,6 +11,8 @@ use std::convert::{AsSlice, AsStr};
 pub enum Words {
     /// To plan a repository of the folder, at a moment in seconds since 1970-01-01T00:00:00Z.
     Plan { repo: Text, now: u64 },
+    /// To run over a repository of the store, at a moment in seconds since 1970-01-01T00:00:00Z.
+    Run { repo: Text, now: u64 },
     /// To make the base of a repository of the store its checked-out files.
     Import { repo: Text },
     /// To print a repository of the store.
@@ -27,9 +29,9 @@ pub enum WordsError {
 }
 
 impl Words {
-    /// What the words `plan REPO --now T`, `import REPO` or `show REPO` ask for, in just this order: REPO
-    /// is a repository name, and T a moment as RFC 3339 writes it in whole seconds of UTC. `Usage`
-    /// exactly for other words.
+    /// What the words `plan REPO --now T`, `run REPO --now T`, `import REPO` or `show REPO` ask for, in
+    /// just this order: REPO is a repository name, and T a moment as RFC 3339 writes it in whole seconds
+    /// of UTC. `Usage` exactly for other words.
     pub fn read(alloc: Global, words: &List<Text>) -> Result<Words, WordsError>
         ensures read { IfOk result (AreWords words.now) }
         ensures usage { IsErrOf result Usage ↔ IsUsage words.now }
@@ -71,14 +73,13 @@ fn four(
     ensures read { IfOk result (AreWords words.now) }
     ensures usage { IsErrOf result Usage ↔ IsUsage words.now }
 {
-    match asked(
-        command.as_str(),
-        repo.as_str(),
-        flag.as_str(),
-        time.as_str(),
-    ) {
-        Some(now) => plan(alloc, words, repo, now),
-        None => Err(WordsError::Usage),
+    let Some(now) = asked(repo.as_str(), flag.as_str(), time.as_str()) else {
+        return Err(WordsError::Usage);
+    };
+    match command.as_str() {
+        "plan" => plan(alloc, words, repo, now),
+        "run" => run(alloc, words, repo, now),
+        _ => Err(WordsError::Usage),
     }
 }
 
@@ -91,6 +92,19 @@ fn plan(alloc: Global, words: &List<Text>, repo: &Text, now: u64) -> Result<Word
     let _ = words;
     match repo.share(alloc) {
         Ok(repo) => Ok(Words::Plan { repo, now }),
+        Err(_) => Err(WordsError::Memory),
+    }
+}
+
+// What words that ask for this run give.
+fn run(alloc: Global, words: &List<Text>, repo: &Text, now: u64) -> Result<Words, WordsError>
+    requires { IsRun words.now repo.now now }
+    ensures read { IfOk result (AreWords words.now) }
+    ensures usage { IsErrOf result Usage ↔ IsUsage words.now }
+{
+    let _ = words;
+    match repo.share(alloc) {
+        Ok(repo) => Ok(Words::Run { repo, now }),
         Err(_) => Err(WordsError::Memory),
     }
 }
@@ -121,12 +135,12 @@ fn show(alloc: Global, words: &List<Text>, repo: &Text) -> Result<Words, WordsEr
     }
 }
 
-// The moment for which these four words ask for a plan.
-fn asked(command: &str, repo: &str, flag: &str, time: &str) -> Option<u64>
-    ensures some { IfSome result (IsAsked command.now repo.now flag.now time.now) }
-    ensures none { IfNone result ((now : ℕ) → ¬ IsAsked command.now repo.now flag.now time.now now) }
+// The moment that stands behind a repository name and `--now`.
+fn asked(repo: &str, flag: &str, time: &str) -> Option<u64>
+    ensures some { IfSome result (IsAsked repo.now flag.now time.now) }
+    ensures none { IfNone result ((now : ℕ) → ¬ IsAsked repo.now flag.now time.now now) }
 {
-    if command != "plan" || flag != "--now" || !name_ok(repo) {
+    if flag != "--now" || !name_ok(repo) {
         return None;
     }
     moment_read(time)

@@ -107,7 +107,7 @@ module _ (repo : List ℕ) (files : List NamedFile) where
 
   -- ---- one plan
 
-  picked-of : (base : List MarkedFile) (ps qs : List PickedFile) → IsGathered files base ps → IsGathered files base qs → ps ≡ qs
+  pub picked-of : (base : List MarkedFile) (ps qs : List PickedFile) → IsGathered files base ps → IsGathered files base qs → ps ≡ qs
   picked-of base ps qs a b =
       picked-one (releases_for files) b.taken ps qs (subst (λ (ts : List TakenFile). ArePicked (releases_for files) ts ps) (taken-one base a.taken b.taken a.built.few.read b.built.few.read) a.each) b.each
 

@@ -185,12 +185,12 @@ fn is_among(name: &Text, items: &[Item]) -> bool
 fn are_distinct(items: &[Item]) -> bool
     ensures { result ≡ true → HaveBranches items.now }
 {
-    let mut at = items.len();
-    while at > 0 {
-        at -= 1;
-        if is_among(&items[at].branch, &items[at + 1..]) {
+    let mut rest = items;
+    while let [item, later @ ..] = rest {
+        if is_among(&item.branch, later) {
             return false;
         }
+        rest = later;
     }
     true
 }

@@ -1,4 +1,4 @@
-use crate::outside::{Done, File, disk, done, stopped, written, zero};
+use crate::outside::{Done, File, answer, disk, stopped, written, zero};
 use rnv_disk::MemDisk;
 use std::alloc::Global;
 use std::convert::AsSlice;
@@ -24,7 +24,7 @@ fn before(alloc: Global) -> Result<Vec<u8>, Fail> {
         code: _,
         text: _,
         disk,
-    } = done(alloc, "import acme/web", OLD, empty)?;
+    } = answer(alloc, "import acme/web", OLD, empty)?;
     Ok(zero(alloc, &disk)?)
 }
 
@@ -35,7 +35,7 @@ fn is_mended(alloc: Global, left: MemDisk) -> Result<bool, Fail> {
         code,
         text,
         disk: _,
-    } = done(alloc, "import acme/web", NEW, left)?;
+    } = answer(alloc, "import acme/web", NEW, left)?;
     Ok(code == 0 && text.as_slice() == b"imported 2 files, revision 2\npassed over 0\n".as_slice())
 }
 
@@ -60,7 +60,7 @@ fn stops_of_an_import(rt: HostRuntime) -> Result<(), Fail> {
         code,
         text: _,
         disk: ran,
-    } = done(alloc, "import acme/web", NEW, kept)?;
+    } = answer(alloc, "import acme/web", NEW, kept)?;
     assert_eq!(rt; code, 0);
     for (place, call) in ran.calls().iter().enumerate() {
         assert!(rt;
@@ -74,7 +74,7 @@ fn stops_of_an_import(rt: HostRuntime) -> Result<(), Fail> {
 // What an import leaves of a disk whose call of this number fails.
 fn faulty(alloc: Global, start: &[u8], number: u64) -> Result<MemDisk, Fail> {
     let failing = disk(alloc, start, &[number])?;
-    let Done { code, text, disk } = done(alloc, "import acme/web", NEW, failing)?;
+    let Done { code, text, disk } = answer(alloc, "import acme/web", NEW, failing)?;
     if code != 7 || text.as_slice() != b"error 7: disk fault\n".as_slice() {
         return Err("no disk fault".into());
     }

@@ -31,16 +31,17 @@ fn files(alloc: Global, files: &[File]) -> Result<List<MemFile>, AllocError> {
 // A disk whose file `Zero` holds these bytes, and whose calls with these numbers fail.
 pub fn disk(alloc: Global, zero: &[u8], failing: &[u64]) -> Result<MemDisk, AllocError> {
     let content = Content::new(Vec::from_slice(alloc, zero)?, Vec::new(alloc));
-    MemDisk::new(
-        alloc,
-        content,
-        List::new(Vec::from_slice(alloc, failing)?),
-    )
+    MemDisk::new(alloc, content, List::new(Vec::from_slice(alloc, failing)?))
 }
 
 // The disk that a stop within the call of this place leaves, with these bytes in the range that it
 // writes.
-pub fn stopped(alloc: Global, ran: &MemDisk, place: usize, torn: &[u8]) -> Result<MemDisk, AllocError> {
+pub fn stopped(
+    alloc: Global,
+    ran: &MemDisk,
+    place: usize,
+    torn: &[u8],
+) -> Result<MemDisk, AllocError> {
     let content = ran.stopped(alloc, place, torn)?;
     MemDisk::new(alloc, content, List::empty(alloc))
 }
@@ -60,11 +61,33 @@ pub struct Done {
     pub disk: MemDisk,
 }
 
+// The calls of the folder and of the output that fail.
+#[derive(Clone, Copy)]
+pub struct Faults<'a> {
+    pub reads: &'a [u64],
+    pub writes: &'a [u64],
+}
+
 // What the words of a line do over these files and this disk.
-pub fn done(alloc: Global, line: &str, held: &[File], disk: MemDisk) -> Result<Done, Fail> {
-    let folder =
-        MemFolder::new(alloc, files(alloc, held)?, List::empty(alloc))?.ok_or("not in order")?;
-    let out = MemSink::new(alloc, List::empty(alloc));
+pub fn answer(alloc: Global, line: &str, held: &[File], disk: MemDisk) -> Result<Done, Fail> {
+    let none = Faults {
+        reads: &[],
+        writes: &[],
+    };
+    answer_with(alloc, line, held, disk, none)
+}
+
+// The same where calls of the folder and of the output fail.
+pub fn answer_with(
+    alloc: Global,
+    line: &str,
+    held: &[File],
+    disk: MemDisk,
+    faults: Faults,
+) -> Result<Done, Fail> {
+    let reads = List::new(Vec::from_slice(alloc, faults.reads)?);
+    let folder = MemFolder::new(alloc, files(alloc, held)?, reads)?.ok_or("not in order")?;
+    let out = MemSink::new(alloc, List::new(Vec::from_slice(alloc, faults.writes)?));
     let words = words(alloc, line)?;
     let Ended { status, outside } = renovate(alloc, &words, Outside { out, folder, disk });
     let Outside {

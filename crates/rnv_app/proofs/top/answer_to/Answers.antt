@@ -15,4 +15,7 @@ returns-in-Ok-Show-clause-answered g c = inr (inr (inl c.show_for.ensures.answer
 
 pub returns-in-Err-clause-answered : goal.returns-in-Err-clause-answered
 returns-in-Err-clause-answered g c =
-    inr (inr (inr (record { same = refl; keeps = keeps_same _ _; refused = none_of c.args.words.now c.in-Err.error _ c.not_read.ensures.usage c.not_read.ensures.memory c.in-Err.ensures.usage })))
+    inr (inr (inr (inr (record { same = refl; keeps = keeps_same _ _; refused = none_of c.args.words.now c.in-Err.error _ c.not_read.ensures.usage c.not_read.ensures.memory c.in-Err.ensures.usage }))))
+
+pub returns-in-Ok-Run-clause-answered : goal.returns-in-Ok-Run-clause-answered
+returns-in-Ok-Run-clause-answered g c = inr (inr (inr (inl c.run_for.ensures.answered)))

@@ -1,12 +1,9 @@
-use Rattle.std.proofs.Common.{◌≤◌, length, drop}
+use Rattle.std.proofs.Common.{length}
 use Rattle.rnv_steps.specs.Stage.{HaveBranches}
 use Rattle.rnv_steps.proofs.tests.are_distinct.Given as goal
 
-abbrev pub invariant-loop-at : goal.invariant-loop-at
-invariant-loop-at l = record {
-  within : l.at ≤ length l.items;
-  distinct : HaveBranches (drop l.at l.items);
-}
+abbrev pub invariant-loop-rest : goal.invariant-loop-rest
+invariant-loop-rest l = HaveBranches l.rest → HaveBranches l.items
 
-abbrev pub decreases-loop-at : goal.decreases-loop-at
-decreases-loop-at l = l.at
+abbrev pub decreases-loop-rest : goal.decreases-loop-rest
+decreases-loop-rest l = length l.rest

@@ -1,0 +1,214 @@
+-- What is said of stops, from the start of a forge to the end of a run over a disk.
+use Rattle.std.proofs.Common.{◌≡◌, ◌≢◌, ◌≤◌, IfErr, IfOk, OnOk, ℕ, List, [], ◌∷◌, ◌++◌, length, take, drop, map, Some, Result, Ok, Err, refl, sym, ap, subst, ◌∙◌, arith, append_assoc}
+use Rattle.std.specs.List.{AllByRecursion}
+use Rattle.std.proofs.lemmas.List.{append_cancel_left, drop_at, length-append, length-take, take_at, take-append-drop}
+use Rattle.rnv_base.specs.Files.{NamedFile}
+use Rattle.rnv_commands.specs.OnDisk.{IsStored}
+use Rattle.rnv_commands.proofs.Stops.{keeps_still}
+use Rattle.rnv_disk.specs.Images.{Image}
+use Rattle.rnv_disk.specs.Stops.{Past}
+use Rattle.rnv_forge.specs.Store.{after, known}
+use Rattle.rnv_forge.specs.WellFormed.{IsWellFormed}
+use Rattle.rnv_forge.specs.declared.repo.Repo.{Repo}
+use Rattle.rnv_forge.specs.declared.write.Write.{Write}
+use Rattle.rnv_journal.specs.Readings.{IsAtRest, IsReadingNow, KeepsReadings, ReadsOnly}
+use Rattle.rnv_journal.specs.declared.start.StartError.{StartError}
+use Rattle.rnv_journal.specs.declared.start.StartError.TheVariants.{DiskFault as start_fault, NotAJournal as start_damaged, Memory as start_memory}
+use Rattle.rnv_journal.proofs.Uses.{reads_then, reads_weaker}
+use Rattle.rnv_outcome.specs.declared.item.Item.{Item}
+use Rattle.rnv_outcome.specs.Steps.{steps}
+use Rattle.rnv_payload.specs.Spelling.{spelling}
+use Rattle.rnv_payload.proofs.Formats.{some_is}
+use Rattle.rnv_payload.proofs.WriteFormats.{whole_again}
+use Rattle.rnv_plan.specs.declared.error.RunError.{RunError}
+use Rattle.rnv_plan.specs.declared.error.RunError.TheVariants.{Memory, FolderFault, DiskFault, UnknownRepo, NotBuilt, Limit, IndexRefused}
+use Rattle.rnv_steps.specs.Stage.{given}
+use Rattle.rnv_store.specs.Forge.{LeavesWrites}
+use Rattle.rnv_store.specs.Start.{IsStoreRefusal}
+use Rattle.rnv_store.proofs.Uses.{leaves_weaker}
+use Rattle.rnv_run.specs.declared.on_disk.RunRefusal.{RunRefusal}
+use Rattle.rnv_run.specs.declared.on_disk.RunRefusal.TheVariants.{Ended}
+use Rattle.rnv_run.specs.Front.{IsFront}
+use Rattle.rnv_run.specs.OnDisk.{ended, IsBegun, IsFinished, IsNotRun, IsRefusedIn, IsStartRefusal, LeavesRun, ReadsFront, Runs, SpellsFront}
+use Rattle.rnv_run.specs.Repository.{AreItemsOf, IfCaused, IsRepoRefusal, IsRunDone}
+use Rattle.rnv_run.specs.Run.{IsResumed, IsStoppedRun, LeavesOutcome}
+use Rattle.rnv_run.specs.Text.{PrintsRun}
+
+-- what holds of a run where images are told
+pub told_run : (limit : ℕ) (tells : Type 0) (old new : Past) (Q : List (List ℕ) → Type 0) → ((t : ℕ) (c : Image) → new.left t c → tells) → old.moment ≤ new.moment
+    → (tells → ReadsOnly limit old new Q) → ReadsOnly limit old new Q
+told_run limit tells old new Q told later run = record {
+  later = later;
+  each = λ c left. (run (told old.moment c left)).each c left;
+  before = λ t c le left. (run (told t c left)).before t c le left;
+}
+
+-- byte strings spell one list of writes
+same_writes : (vs ws : List Write) → AllByRecursion IsWellFormed vs → AllByRecursion IsWellFormed ws → map spelling vs ≡ map spelling ws → vs ≡ ws
+same_writes [] [] a b e = refl
+same_writes [] (w ∷ ws) a b e = absurd (cc e)
+same_writes (v ∷ vs) [] a b e = absurd (cc e)
+same_writes (v ∷ vs) (w ∷ ws) a b e =
+    let first : spelling v ≡ spelling w = cc in
+    let others : map spelling vs ≡ map spelling ws = cc in
+    let head : v ≡ w = some_is v w (sym (whole_again (spelling v) v a.0.texts refl) ∙ whole_again (spelling v) w b.0.texts first) in
+    let rest : vs ≡ ws = same_writes vs ws a.1 b.1 others in
+    cc
+
+module _ (limit : ℕ) (entry : Past) (start ws : List Write) (least : ℕ) (reads : ReadsFront limit entry start ws least) where
+  -- the writes that are read of such a disk
+  pub found_front : (found : List Write) → AllByRecursion IsWellFormed found → IsReadingNow limit entry (map spelling found) → IsFront start ws least found
+  found_front found fits reading =
+      let some = reads.each (map spelling found) reading in
+      subst (IsFront start ws least) (same_writes some.writes found some.spelled.well_formed fits (sym some.spelled.spells)) some.each
+
+  -- a disk that keeps its readings
+  pub kept_front : (exit : Past) → KeepsReadings limit entry exit → ReadsOnly limit entry exit (SpellsFront start ws least)
+  kept_front exit keeps = reads_weaker limit entry exit (IsReadingNow limit entry) (SpellsFront start ws least) reads.each (keeps reads.some)
+
+  pub then_front : (mid exit : Past) → KeepsReadings limit entry mid → ReadsOnly limit mid exit (SpellsFront start ws least) → ReadsOnly limit entry exit (SpellsFront start ws least)
+  then_front mid exit keeps run = reads_then limit entry mid exit (SpellsFront start ws least) (kept_front mid keeps) run
+
+-- the first writes of a run that stand, and the others
+pub stopped_at : (moment : ℕ) (name : List ℕ) (start : List Write) (first : Repo) (items : List Item) (least : ℕ) (now : List Write) → known name (after start []) ≡ Some first
+    → (f : IsFront start (steps (given moment items) first) least now)
+    → IsStoppedRun (given moment items) name start first (take f.count (steps (given moment items) first)) (drop f.count (steps (given moment items) first)) now
+stopped_at moment name start first items least now there f = record { there = there; plan = sym (take-append-drop f.count (steps (given moment items) first)); stands = f.is }
+
+-- no fewer than those
+pub front_weaker : (limit : ℕ) (old new : Past) (start ws : List Write) (least count : ℕ) → least ≤ count → count ≤ length ws → LeavesWrites limit old new (IsFront start (take count ws ++ drop count ws) (length (take count ws)))
+    → LeavesWrites limit old new (IsFront start ws least)
+front_weaker limit old new start ws least count le most run = leaves_weaker limit old new (IsFront start (take count ws ++ drop count ws) (length (take count ws))) (IsFront start ws least) each run
+  where
+    whole : take count ws ++ drop count ws ≡ ws
+    whole = take-append-drop count ws
+
+    each : (list : List Write) → IsFront start (take count ws ++ drop count ws) (length (take count ws)) list → IsFront start ws least list
+    each list f = record {
+      count = f.count;
+      at_least = omega (arith, le, most, f.at_least, length-take count ws);
+      at_most = omega (arith, f.at_most, ap length whole);
+      is = f.is ∙ ap (λ (l : List Write). start ++ take f.count l) whole;
+    }
+
+-- all writes of a run that was stopped, its outcome, and the text of the last of them
+pub finished : (limit : ℕ) (exit : Past) (tells : Type 0) (files : List NamedFile) (name : List ℕ) (moment : ℕ) (start : List Write) (first : Repo) (items : List Item) (us vs old new : List Write) (text : List ℕ)
+    → IsStoppedRun (given moment items) name start first us vs old → IsResumed (given moment items) name start first us vs new → (l : LeavesRun tells files name moment limit old exit text) → l.new ≡ new
+    → IsFinished limit exit name moment start first items text
+finished limit exit tells files name moment start first items us vs old new text stopped resumed l same = record {
+  at_rest = subst (λ (ws : List Write). IsAtRest limit exit (map spelling ws)) (same ∙ whole) l.at_rest;
+  leaves = subst (λ (ws : List Write). LeavesOutcome (given moment items) name first ws) whole resumed.leaves;
+  count = length us;
+  at_most = omega (arith, ap length stopped.plan, length-append us vs);
+  repo = l.done.run.repo;
+  there = ap (λ (ws : List Write). known name (after ws [])) (ap (λ (ws : List Write). start ++ ws) front ∙ sym stopped.stands) ∙ l.done.run.there;
+  prints = subst (λ (ws : List Write). PrintsRun moment l.done.run.repo ws text) (rest ∙ (sym (drop_at us vs (length us) refl) ∙ ap (drop (length us)) (sym stopped.plan))) l.done.prints;
+}
+  where
+    whole : new ≡ start ++ steps (given moment items) first
+    whole = resumed.all ∙ ap (λ (ws : List Write). start ++ ws) (sym stopped.plan)
+
+    front : take (length us) (steps (given moment items) first) ≡ us
+    front = ap (take (length us)) stopped.plan ∙ take_at us vs (length us) refl
+
+    rest : l.done.ws ≡ vs
+    rest = append_cancel_left (start ++ us) l.done.ws vs (sym (ap (λ (ws : List Write). ws ++ l.done.ws) stopped.stands) ∙ (sym l.done.all ∙ (same ∙ (resumed.all ∙ sym (append_assoc start us vs)))))
+
+-- the same of a run that may have been refused
+pub finished_from : (r : Result (List ℕ) RunError) (limit : ℕ) (exit : Past) (tells : Type 0) (files : List NamedFile) (name : List ℕ) (moment : ℕ) (start : List Write) (first : Repo) (items : List Item) (us vs old new : List Write)
+    → IsStoppedRun (given moment items) name start first us vs old → OnOk r (IsResumed (given moment items) name start first us vs new) → IfOk r (IsRunDone tells files name moment old new)
+    → OnOk r (IsAtRest limit exit (map spelling new)) → IfOk r (IsFinished limit exit name moment start first items)
+finished_from (Ok text) limit exit tells files name moment start first items us vs old new stopped resumed done rest =
+    finished limit exit tells files name moment start first items us vs old new text stopped resumed (record { new = new; done = done; at_rest = rest }) refl
+finished_from (Err e) limit exit tells files name moment start first items us vs old new stopped resumed done rest = tt
+
+-- ---- a run over a disk
+
+ok_ended : (r : Result (List ℕ) RunError) (P Q : List ℕ → Type 0) → ((text : List ℕ) → P text → Q text) → IfOk r P → IfOk (ended r) Q
+ok_ended (Ok text) P Q f p = f text p
+ok_ended (Err e) P Q f p = tt
+
+caused_in : (files : List NamedFile) (name : List ℕ) (moment limit : ℕ) (file : List ℕ) (old : List Write) → IsStored limit file old → (error : RunError) → IfCaused (IsRepoRefusal files name moment limit old) error
+    → IfCaused (IsRefusedIn files name moment limit file) error
+caused_in files name moment limit file old stored Memory r = tt
+caused_in files name moment limit file old stored FolderFault r = tt
+caused_in files name moment limit file old stored DiskFault r = tt
+caused_in files name moment limit file old stored UnknownRepo r = record { old = old; stored = stored; cause = r }
+caused_in files name moment limit file old stored (NotBuilt path) r = record { old = old; stored = stored; cause = r }
+caused_in files name moment limit file old stored (Limit which number) r = record { old = old; stored = stored; cause = r }
+caused_in files name moment limit file old stored (IndexRefused path line) r = record { old = old; stored = stored; cause = r }
+
+refused_ended : (r : Result (List ℕ) RunError) (files : List NamedFile) (name : List ℕ) (moment limit : ℕ) (file : List ℕ) (old : List Write) → IsStored limit file old → IfErr r (IfCaused (IsRepoRefusal files name moment limit old))
+    → IfErr (ended r) (IsNotRun files name moment limit file)
+refused_ended (Ok text) files name moment limit file old stored r = tt
+refused_ended (Err e) files name moment limit file old stored r = caused_in files name moment limit file old stored e r
+
+module _ (folder_tells disk_tells : Type 0) (files : List NamedFile) (file : List ℕ) (entry mid exit : Past) (name : List ℕ) (moment : ℕ) (old : List Write) (r : Result (List ℕ) RunError)
+    (keeps : KeepsReadings 268435456 entry mid) (reading : disk_tells → IsReadingNow 268435456 entry (map spelling old)) (stored : disk_tells → IsStored 268435456 file old)
+    (told : (t : ℕ) (c : Image) → exit.left t c → disk_tells) (fits : AllByRecursion IsWellFormed old) (later : mid.moment ≤ exit.moment)
+    (unwritten : IfErr r (λ error. error ≢ DiskFault → LeavesWrites 268435456 mid exit (λ ws. ws ≡ old))) (ran : IfOk r (LeavesRun folder_tells files name moment 268435456 old exit))
+    (refused : folder_tells → IfErr r (IfCaused (IsRepoRefusal files name moment 268435456 old)))
+    (resumed : folder_tells → (start : List Write) (first : Repo) (items : List Item) (us vs : List Write) → AreItemsOf folder_tells files first.files items → IsStoppedRun (given moment items) name start first us vs old
+    → IfOk r (IsFinished 268435456 exit name moment start first items))
+    (resumed_any : folder_tells → (start : List Write) (first : Repo) (items : List Item) (us vs : List Write) → AreItemsOf folder_tells files first.files items → IsStoppedRun (given moment items) name start first us vs old
+    → LeavesWrites 268435456 mid exit (IsFront start (us ++ vs) (length us))) where
+  wished : (start : List Write) (first : Repo) (items : List Item) → IsBegun files name start first items → AreItemsOf folder_tells files first.files items
+  wished start first items begun =
+      let are = begun.are_items in
+      record { picked = are.picked; fit = are.fit; gathered = λ t. are.gathered tt; desired = are.desired }
+
+  here : (start : List Write) (first : Repo) (items : List Item) (least : ℕ) → disk_tells → ReadsFront 268435456 entry start (steps (given moment items) first) least → IsFront start (steps (given moment items) first) least old
+  here start first items least d reads = found_front 268435456 entry start (steps (given moment items) first) least reads old fits (reading d)
+
+  kept_unwritten : (q : Result (List ℕ) RunError) → IfErr q (λ error. error ≢ DiskFault → LeavesWrites 268435456 mid exit (λ ws. ws ≡ old)) → IfErr (ended q) (λ refusal. refusal ≢ Ended DiskFault → KeepsReadings 268435456 entry exit)
+  kept_unwritten (Ok text) u = tt
+  kept_unwritten (Err e) u = λ ne. keeps_still 268435456 disk_tells entry mid exit old keeps reading told (u (λ same. ne (ap Ended same)))
+
+  pub runs_of : Runs folder_tells files disk_tells file entry exit name moment (ended r)
+  runs_of = record {
+    stops = λ start first items least t begun reads.
+        let W = steps (given moment items) first in
+        then_front 268435456 entry start W least reads mid exit keeps (told_run 268435456 disk_tells mid exit (SpellsFront start W least) told later (λ d.
+        let f = here start first items least d reads in
+        front_weaker 268435456 mid exit start W least f.count f.at_least f.at_most
+        (resumed_any t start first items (take f.count W) (drop f.count W) (wished start first items begun) (stopped_at moment name start first items least old begun.there f))));
+    finished = λ start first items least t d begun reads.
+        let W = steps (given moment items) first in
+        let f = here start first items least d reads in
+        ok_ended r _ _ (λ text h. h) (resumed t start first items (take f.count W) (drop f.count W) (wished start first items begun) (stopped_at moment name start first items least old begun.there f));
+    unwritten = kept_unwritten r unwritten;
+    done = λ d. ok_ended r _ _ (λ text leaves. record { old = old; stored = stored d; leaves = leaves }) ran;
+    refused = λ t d. refused_ended r files name moment 268435456 file old (stored d) (refused t);
+  }
+
+-- the same of an answer that is this one
+pub runs_as : (folder_tells : Type 0) (files : List NamedFile) (disk_tells : Type 0) (file : List ℕ) (entry exit : Past) (name : List ℕ) (moment : ℕ) (answer other : Result (List ℕ) RunRefusal) → answer ≡ other
+    → Runs folder_tells files disk_tells file entry exit name moment other → Runs folder_tells files disk_tells file entry exit name moment answer
+runs_as folder_tells files disk_tells file entry exit name moment answer other same runs = subst (Runs folder_tells files disk_tells file entry exit name moment) (sym same) runs
+
+-- a start that was refused
+start_refused : (files : List NamedFile) (name : List ℕ) (moment limit : ℕ) (file : List ℕ) (error : StartError) (refusal : RunRefusal) → IsStartRefusal error refusal → IsStoreRefusal limit file error → IsNotRun files name moment limit file refusal
+start_refused files name moment limit file start_fault refusal is r = subst (IsNotRun files name moment limit file) (sym is) tt
+start_refused files name moment limit file (start_damaged offset) refusal is r = subst (IsNotRun files name moment limit file) (sym is) r
+start_refused files name moment limit file start_memory refusal is r = subst (IsNotRun files name moment limit file) (sym is) tt
+
+pub runs_refused : (folder_tells : Type 0) (files : List NamedFile) (disk_tells : Type 0) (file : List ℕ) (entry exit : Past) (name : List ℕ) (moment : ℕ) (error : StartError) (refusal : RunRefusal) → KeepsReadings 268435456 entry exit
+    → IsStartRefusal error refusal → (disk_tells → IsStoreRefusal 268435456 file error) → Runs folder_tells files disk_tells file entry exit name moment (Err refusal)
+runs_refused folder_tells files disk_tells file entry exit name moment error refusal keeps is r = record {
+  stops = λ start first items least t begun reads. kept_front 268435456 entry start (steps (given moment items) first) least reads exit keeps;
+  finished = λ start first items least t d begun reads. tt;
+  unwritten = λ ne. keeps;
+  done = λ d. tt;
+  refused = λ t d. start_refused files name moment 268435456 file error refusal is (r d);
+}
+
+-- nothing was done, for want of memory
+pub runs_none : (folder_tells : Type 0) (files : List NamedFile) (disk_tells : Type 0) (file : List ℕ) (entry exit : Past) (name : List ℕ) (moment : ℕ) → KeepsReadings 268435456 entry exit
+    → Runs folder_tells files disk_tells file entry exit name moment (Err (Ended Memory))
+runs_none folder_tells files disk_tells file entry exit name moment keeps = record {
+  stops = λ start first items least t begun reads. kept_front 268435456 entry start (steps (given moment items) first) least reads exit keeps;
+  finished = λ start first items least t d begun reads. tt;
+  unwritten = λ ne. keeps;
+  done = λ t. tt;
+  refused = λ t d. tt;
+}

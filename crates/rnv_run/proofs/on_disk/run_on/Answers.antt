@@ -1,0 +1,18 @@
+use Rattle.rnv_commands.proofs.Stops.{read_on_entry, stored_of}
+use Rattle.rnv_store.proofs.Writes.{all_front}
+use Rattle.rnv_forge.specs.WellFormed.{IsWellFormed}
+use Rattle.rnv_run.proofs.Disks.{runs_as, runs_of, runs_refused}
+use Rattle.rnv_run.proofs.on_disk.run_on.Goals as goal
+
+pub returns-in-Ok-clause-runs : goal.returns-in-Ok-clause-runs
+returns-in-Ok-clause-runs g c =
+    runs_as _ _ _ _ _ _ _ _ _ _ c.ended.ensures
+    (runs_of g.O.Folder.tells g.D.Disk.tells (g.O.Folder.files c.args.folder.now) _ _ _ _ c.args.name.now c.args.moment _ _
+    c.in-Ok.ensures.any_moment (λ d. read_on_entry _ _ (g.D.Disk.seen c.args.disk) _ (g.met.D.Disk.reads_now c.args.disk d) (c.in-Ok.ensures.writes d))
+    (λ d. stored_of _ _ _ _ (c.in-Ok.ensures.writes d) c.stands.ensures.well_formed c.stands.ensures.permitted)
+    (λ t i left. g.met.D.Disk.only_told _ _ i left) (all_front IsWellFormed _ _ c.stands.ensures.well_formed) c.run_started-text.ensures.any_moment.later
+    c.run_started-text.ensures.unwritten c.run_started-text.ensures.ran c.run_started-text.ensures.refused c.run_started-text.ensures.resumed c.run_started-text.ensures.resumed_any_moment)
+
+pub returns-in-Err-clause-runs : goal.returns-in-Err-clause-runs
+returns-in-Err-clause-runs g c =
+    runs_refused g.O.Folder.tells (g.O.Folder.files c.args.folder.now) g.D.Disk.tells _ _ _ c.args.name.now c.args.moment _ _ c.in-Err.ensures.any_moment_refused c.not_started.ensures c.in-Err.ensures.refused

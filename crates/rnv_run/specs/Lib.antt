@@ -1,0 +1,5 @@
+pub mod Front
+pub mod OnDisk
+pub mod Repository
+pub mod Run
+pub mod Text

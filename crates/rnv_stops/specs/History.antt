@@ -1,0 +1,97 @@
+-- Runs that are stopped, or fail, and are given again, one after the other.
+use Rattle.std.specs.Prelude.{◌≡◌, ◌⊎◌, ◌≤◌, ◌<◌, ℕ, suc, List, [], ◌∷◌, ◌++◌, map, flat_map}
+use Rattle.rnv_base.specs.Files.{NamedFile}
+use Rattle.rnv_disk.specs.Images.{Image}
+use Rattle.rnv_disk.specs.Stops.{LeftNow, Past}
+use Rattle.rnv_forge.specs.declared.repo.Repo.{Repo}
+use Rattle.rnv_forge.specs.declared.write.Write.{Write}
+use Rattle.rnv_forge.specs.declared.write.Write.TheVariants.{SetBase, PutBranch, DropBranch, OpenRequest, EditRequest, Autoclose, Finish}
+use Rattle.rnv_journal.specs.Readings.{IsAtRest, ReadsOnly}
+use Rattle.rnv_outcome.specs.declared.item.Item.{Item}
+use Rattle.rnv_outcome.specs.Law.{HaveDistinct}
+use Rattle.rnv_outcome.specs.Steps.{steps}
+use Rattle.rnv_payload.specs.Spelling.{spelling}
+use Rattle.rnv_run.specs.OnDisk.{ReadsFront, SpellsFront}
+use Rattle.rnv_run.specs.Run.{LeavesOutcome}
+use Rattle.rnv_steps.specs.Stage.{given}
+use Rattle.rnv_app.specs.Top.{IsRunEnd, Sight}
+
+-- A call of the program: what is told of the folder and the disk, what the output held before and after, its faults
+-- before and after, and the status.
+pub record Call : Type 1 where
+  pub sight : Sight
+  pub out_tells : Type 0
+  pub before : List ℕ
+  pub after : List ℕ
+  pub faults : ℕ
+  pub now : ℕ
+  pub code : ℕ
+
+-- the same, of a disk by what stops may leave before and after the call, and what it holds before
+abbrev pub call_of : Type 0 → List NamedFile → Type 0 → Past → Past → Image → Type 0 → List ℕ → List ℕ → ℕ → ℕ → ℕ → Call
+call_of folder_tells files disk_tells entry exit seen out_tells before after faults now code = record {
+  sight = record { folder_tells = folder_tells; files = files; disk_tells = disk_tells; file = seen.zero; entry = entry; exit = exit; same_disk = Unit {0} };
+  out_tells = out_tells;
+  before = before;
+  after = after;
+  faults = faults;
+  now = now;
+  code = code;
+}
+
+-- a run of a repository at a moment, over these files of the folder, ends as the top call's clause says
+pub record IsRunCall (files : List NamedFile) (name : List ℕ) (moment : ℕ) (c : Call) : Type 0 where
+  pub folder_told : c.sight.folder_tells
+  pub disk_told : c.sight.disk_tells
+  pub files_are : c.sight.files ≡ files
+  pub ends : IsRunEnd c.sight name moment c.out_tells c.before c.after c.faults c.now c.code
+
+-- the next call finds on the disk what a stop at some moment of this one, or after it, left there
+pub record FindsLeft (a b : Call) : Type 0 where
+  pub image : Image
+  pub left : a.sight.exit.left a.sight.entry.moment image
+  pub only : (c : Image) → LeftNow b.sight.entry c → c ≡ image
+
+-- runs from the one with number 0 to the one with number n, each behind the one before
+pub record AreRuns (files : List NamedFile) (name : List ℕ) (moment : ℕ) (calls : ℕ → Call) (n : ℕ) : Type 0 where
+  pub each : (i : ℕ) → i ≤ n → IsRunCall files name moment (calls i)
+  pub next : (i : ℕ) → i < n → FindsLeft (calls i) (calls (suc i))
+
+-- the branch that a write puts, and the one on which it opens a request, if it does so
+abbrev pub put_of : Write → List (List ℕ)
+put_of (SetBase repo changes) = []
+put_of (PutBranch repo branch) = branch.name ∷ []
+put_of (DropBranch repo name) = []
+put_of (OpenRequest repo number branch updates title body labels made_at) = []
+put_of (EditRequest repo number updates title body labels) = []
+put_of (Autoclose repo number) = []
+put_of (Finish repo page) = []
+
+abbrev pub opened_of : Write → List (List ℕ)
+opened_of (SetBase repo changes) = []
+opened_of (PutBranch repo branch) = []
+opened_of (DropBranch repo name) = []
+opened_of (OpenRequest repo number branch updates title body labels made_at) = branch ∷ []
+opened_of (EditRequest repo number updates title body labels) = []
+opened_of (Autoclose repo number) = []
+opened_of (Finish repo page) = []
+
+-- no branch is put twice, and on none two requests are opened
+pub record IsOnce (ws : List Write) : Type 0 where
+  pub branches : HaveDistinct (λ (n : List ℕ). n) (flat_map put_of ws)
+  pub requests : HaveDistinct (λ (n : List ℕ). n) (flat_map opened_of ws)
+
+-- all was done, though its text may have been printed in part
+abbrev pub IsDone : ℕ → Type 0
+IsDone code = (code ≡ 0) ⊎ (code ≡ 10)
+
+-- What the runs make together of the store, where the first began with some writes in it: at every moment of each run whatever
+-- a stop leaves spells these writes and the first of those of the first run, from one run to the next no fewer, and once a run is
+-- done all of them, each once and in order, with what the first run was to leave; and these make no branch and no request twice.
+pub record Compose (name : List ℕ) (moment : ℕ) (start : List Write) (first : Repo) (items : List Item) (calls : ℕ → Call) (n : ℕ) : Type 0 where
+  pub at_every_moment : (i : ℕ) → i ≤ n → ReadsOnly 268435456 (calls i).sight.entry (calls i).sight.exit (SpellsFront start (steps (given moment items) first) 0)
+  pub never_fewer : (i k least : ℕ) → i ≤ k → k ≤ n → ReadsFront 268435456 (calls i).sight.entry start (steps (given moment items) first) least
+      → ReadsFront 268435456 (calls k).sight.entry start (steps (given moment items) first) least
+  pub settled : IsDone (calls n).code → IsAtRest 268435456 (calls n).sight.exit (map spelling (start ++ steps (given moment items) first))
+  pub once : IsOnce (steps (given moment items) first)
+  pub outcome : IsDone (calls n).code → LeavesOutcome (given moment items) name first (start ++ steps (given moment items) first)
