@@ -38,6 +38,19 @@ const UPDATED: &[File] = &[
     ),
 ];
 
+// The same with the second one's update done, and a greater release of the first.
+const GREATER: &[File] = &[
+    (
+        "index/npm/a.json",
+        b"{\"versions\":{\"1.0.0\":{},\"1.1.0\":{},\"1.2.0\":{}}}",
+    ),
+    ("index/npm/b.json", TWO),
+    (
+        "repos/acme/web/package.json",
+        b"{\"dependencies\":{\"a\":\"1.0.0\",\"b\":\"1.1.0\"}}",
+    ),
+];
+
 const WHOLE: &[u8] = b"now 2024-06-03T10:15:00Z\n\
 put renovate/a-1.x\nopened #1 renovate/a-1.x\n\
 put renovate/b-1.x\nopened #2 renovate/b-1.x\n\
@@ -53,6 +66,11 @@ finished\ndone 6 writes\n";
 const CLEANED: &[u8] = b"now 2024-06-03T10:15:00Z\n\
 closed #1 renovate/a-1.x\ndropped renovate/a-1.x\n\
 put renovate/b-1.x\nfinished\ndone 4 writes\n";
+
+const EDITED: &[u8] = b"now 2024-06-03T10:15:00Z\n\
+closed #2 renovate/b-1.x\ndropped renovate/b-1.x\n\
+put renovate/a-1.x\nedited #1 renovate/a-1.x\n\
+finished\ndone 5 writes\n";
 
 const NOTHING: &[u8] = b"now 2024-06-03T10:15:00Z\ndone 0 writes\n";
 
@@ -94,7 +112,7 @@ fn a_run_and_another(rt: HostRuntime) -> Result<(), Fail> {
 #[test]
 fn an_update_that_was_done(rt: HostRuntime) -> Result<(), Fail> {
     let alloc = rt.alloc();
-    let again = updated(alloc)?;
+    let again = updated(alloc, UPDATED)?;
     let cleaned = printed(alloc, RUN, UPDATED, again, CLEANED)?;
     printed(alloc, RUN, UPDATED, cleaned, NOTHING)?;
     Ok(())
@@ -170,8 +188,8 @@ fn stops_of_a_run(rt: HostRuntime) -> Result<(), Fail> {
     Ok(())
 }
 
-// A disk with a run of two updates, of which the first was then done in the base.
-fn updated(alloc: Global) -> Result<MemDisk, Fail> {
+// A disk with a run of two updates, and an import of these files after it.
+fn updated(alloc: Global, held: &[File]) -> Result<MemDisk, Fail> {
     let before = imported(alloc, PAIR)?;
     let Done {
         code: _,
@@ -182,17 +200,24 @@ fn updated(alloc: Global) -> Result<MemDisk, Fail> {
         code: _,
         text: _,
         disk,
-    } = answer(alloc, "import acme/web", UPDATED, ran)?;
+    } = answer(alloc, "import acme/web", held, ran)?;
     Ok(disk)
 }
 
-#[test]
-fn stops_of_a_run_that_closes(rt: HostRuntime) -> Result<(), Fail> {
-    let alloc = rt.alloc();
-    let start = zero(alloc, &updated(alloc)?)?;
+// Whether a run after that import prints this text, and leaves the same after a stop within each of
+// its calls.
+fn resumes(alloc: Global, held: &[File], wanted: &[u8]) -> Result<bool, Fail> {
+    let start = zero(alloc, &updated(alloc, held)?)?;
     let before = disk(alloc, start.as_slice(), &[])?;
-    let ran = printed(alloc, RUN, UPDATED, before, CLEANED)?;
-    assert!(rt; leaves_after_each(alloc, UPDATED, &ran)?);
+    let ran = printed(alloc, RUN, held, before, wanted)?;
+    leaves_after_each(alloc, held, &ran)
+}
+
+#[test]
+fn stops_of_runs_that_close_and_edit(rt: HostRuntime) -> Result<(), Fail> {
+    let alloc = rt.alloc();
+    assert!(rt; resumes(alloc, UPDATED, CLEANED)?);
+    assert!(rt; resumes(alloc, GREATER, EDITED)?);
     Ok(())
 }
 
