@@ -1,5 +1,5 @@
 -- What a forge holds that has no disk.
-use Rattle.std.specs.Prelude.{◌≡◌, ◌≤◌, ℕ, List, [], ◌++◌, length, take, drop}
+use Rattle.std.specs.Prelude.{◌≤◌, ℕ, List, [], ◌++◌, length, take, drop}
 use Rattle.std.proofs.Common.{subst, sym}
 use Rattle.std.specs.List.{AllByRecursion}
 use Rattle.std.proofs.lemmas.List.{take-append-drop}
