@@ -2,6 +2,7 @@ pub mod ByName
 pub mod Checking
 pub mod Each
 pub mod Folding
+pub mod InMemory
 pub mod Preparing
 pub mod Revisions
 pub mod Starting

@@ -4,6 +4,7 @@
 
 mod forge;
 mod journal_forge;
+mod mem_forge;
 mod start;
 mod store;
 mod stored;
@@ -13,3 +14,4 @@ mod texts;
 
 pub use forge::{Forge, ForgePrepareError, WriteError};
 pub use journal_forge::{JournalForge, StartRefused};
+pub use mem_forge::MemForge;

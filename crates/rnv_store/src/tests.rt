@@ -1,10 +1,10 @@
 ghost use Rattle.std.specs.Prelude.{◌≡◌, ◌↔◌, All, IfOk, IsTrue, OnOk};
 ghost use Rattle.rnv_forge.specs.WellFormed.{IsOrderly};
 
-use crate::{Forge, ForgePrepareError, JournalForge, WriteError};
+use crate::{Forge, ForgePrepareError, JournalForge, MemForge, WriteError};
 use rnv_base::{Bytes, List, Text};
 use rnv_disk::{Content, FileNo, MemDisk};
-use rnv_forge::{FileChange, Refusal, Write, is_orderly};
+use rnv_forge::{FileChange, Refusal, Repo, Write, is_orderly};
 use rnv_journal::StartError;
 use std::alloc::{AllocError, Global};
 use std::convert::{AsSlice, AsStr};
@@ -110,13 +110,32 @@ fn write<F: Forge>(
     }
 }
 
+// Two writes of `a/b` behind one of another repository, and the answers to them.
+fn write_three<F: Forge>(forge: &mut F, alloc: Global) -> Result<[Result<(), WriteError>; 3], Fail>
+    requires { F.holds forge.old }
+    ensures { F.holds forge.new }
+{
+    let first = write(forge, alloc, "c/d", b"{}")?;
+    let second = write(forge, alloc, "a/b", b"{ }")?;
+    let third = write(forge, alloc, "a/b", b"{}")?;
+    Ok([first, second, third])
+}
+
+// How many repositories there are, and the first of them.
+fn first_repo<F: Forge>(forge: &F, alloc: Global) -> Result<(usize, Repo), Fail>
+    requires { F.holds forge.now }
+{
+    let names = forge.names(alloc)?;
+    let name = names.as_slice().first().ok_or("no name")?;
+    let repo = forge.repo(alloc, name)?.ok_or("no repository")?;
+    Ok((names.len(), repo))
+}
+
 #[test]
 fn writes_stand_after_a_start(rt: HostRuntime) -> Result<(), Fail> {
     let alloc = rt.alloc();
     let mut forge = started(alloc, disk(alloc, b"", &[])?, 1000)?;
-    assert_eq!(rt; write(&mut forge, alloc, "c/d", b"{}")?, Ok(()));
-    assert_eq!(rt; write(&mut forge, alloc, "a/b", b"{ }")?, Ok(()));
-    assert_eq!(rt; write(&mut forge, alloc, "a/b", b"{}")?, Ok(()));
+    assert_eq!(rt; write_three(&mut forge, alloc)?, [Ok(()), Ok(()), Ok(())]);
     let disk = forge.into_disk();
     let payload =
         b"\x01\x00\x00\x00\x03a/b\x00\x00\x00\x01\x00\x00\x00\x0cpackage.json\x01\x00\x00\x00\x02{}\x00";
@@ -124,13 +143,18 @@ fn writes_stand_after_a_start(rt: HostRuntime) -> Result<(), Fail> {
     let Ok(forge) = JournalForge::start(alloc, disk) else {
         return Err("not started again".into());
     };
-    let names = forge.names(alloc)?;
-    assert_eq!(rt; names.len(), 2);
-    let repo = forge
-        .repo(alloc, &names.as_slice()[0])?
-        .ok_or("no repository")?;
-    assert_eq!(rt; repo.name.as_str(), "a/b");
-    assert_eq!(rt; repo.revision, 2);
+    let (count, repo) = first_repo(&forge, alloc)?;
+    assert_eq!(rt; (count, repo.name.as_str(), repo.revision), (2, "a/b", 2));
+    Ok(())
+}
+
+#[test]
+fn writes_stand_in_memory(rt: HostRuntime) -> Result<(), Fail> {
+    let alloc = rt.alloc();
+    let mut forge = MemForge::new(alloc, 1000, List::empty(alloc));
+    assert_eq!(rt; write_three(&mut forge, alloc)?, [Ok(()), Ok(()), Ok(())]);
+    let (count, repo) = first_repo(&forge, alloc)?;
+    assert_eq!(rt; (count, repo.name.as_str(), repo.revision), (2, "a/b", 2));
     Ok(())
 }
 
@@ -155,37 +179,58 @@ fn starts_that_are_refused(rt: HostRuntime) -> Result<(), Fail> {
     Ok(())
 }
 
+// The answers to two lists of writes.
+fn prepare_both<F: Forge>(
+    forge: &mut F,
+    alloc: Global,
+) -> Result<[Result<(), ForgePrepareError>; 2], Fail>
+    requires { F.holds forge.old }
+{
+    let first = prepare(forge, alloc, two(alloc, "c/d")?)?;
+    let second = prepare(forge, alloc, two(alloc, "a/b")?)?;
+    Ok([first, second])
+}
+
 #[test]
 fn writes_that_are_refused(rt: HostRuntime) -> Result<(), Fail> {
     let alloc = rt.alloc();
-    let mut forge = started(alloc, disk(alloc, EMPTY, &[])?, 60)?;
     let unknown = ForgePrepareError::Refused {
         index: 1,
         cause: Refusal::UnknownRepo,
     };
-    assert_eq!(rt;
-        prepare(&mut forge, alloc, two(alloc, "c/d")?)?,
-        Err(unknown)
-    );
     // Without entries 14, and 5 more and the payload for each: 35 and 9 bytes.
     let full = ForgePrepareError::Full {
         length: 68,
         limit: 60,
     };
-    assert_eq!(rt; prepare(&mut forge, alloc, two(alloc, "a/b")?)?, Err(full));
+    let mut forge = started(alloc, disk(alloc, EMPTY, &[])?, 60)?;
+    assert_eq!(rt; prepare_both(&mut forge, alloc)?, [Err(unknown), Err(full)]);
+    let mut forge = MemForge::new(alloc, 60, List::empty(alloc));
+    assert_eq!(rt; prepare_both(&mut forge, alloc)?, [Err(unknown), Err(full)]);
     Ok(())
+}
+
+// The answer to a write, and to the writes that are to come then.
+fn write_and_prepare<F: Forge>(
+    forge: &mut F,
+    alloc: Global,
+) -> Result<(Result<(), WriteError>, Result<(), ForgePrepareError>), Fail>
+    requires { F.holds forge.old }
+{
+    let written = write(forge, alloc, "a/b", b"{}")?;
+    let prepared = prepare(forge, alloc, one(alloc, "a/b", b"{}")?)?;
+    Ok((written, prepared))
 }
 
 #[test]
 fn a_fault_closes_the_forge(rt: HostRuntime) -> Result<(), Fail> {
     let alloc = rt.alloc();
+    let closed = (Err(WriteError::DiskFault), Err(ForgePrepareError::Closed));
     // A start of a made journal makes two calls.
     let mut forge = started(alloc, disk(alloc, EMPTY, &[2])?, 1000)?;
-    assert_eq!(rt;
-        write(&mut forge, alloc, "a/b", b"{}")?,
-        Err(WriteError::DiskFault)
-    );
-    let answer = prepare(&mut forge, alloc, one(alloc, "a/b", b"{}")?)?;
-    assert_eq!(rt; answer, Err(ForgePrepareError::Closed));
+    assert_eq!(rt; write_and_prepare(&mut forge, alloc)?, closed);
+    let failing = List::new(Vec::from_slice(alloc, &[0])?);
+    let mut forge = MemForge::new(alloc, 1000, failing);
+    assert_eq!(rt; write_and_prepare(&mut forge, alloc)?, closed);
     Ok(())
 }
