@@ -234,7 +234,7 @@ carries-one parts text slash m n s left ps here t c carries e g f more o told =
     let b = nat_eq c 47 in
     let one : Tells (ps ++ One s ∷ []) (t ++ c ∷ []) (raised b 1 o) = one-step s ps t c f b refl o told in
     let at : Tells left here (raised b 1 o) =
-      subst (λ (l : List Part). Tells l here (raised b 1 o)) (sym e) (subst (λ (x : List ℕ). Tells (ps ++ One s ∷ []) x (raised b 1 o)) (sym g) one) in
+    subst (λ (l : List Part). Tells l here (raised b 1 o)) (sym e) (subst (λ (x : List ℕ). Tells (ps ++ One s ∷ []) x (raised b 1 o)) (sym g) one) in
     subst (λ (k : ℕ). Tells parts text (raised (slash || b) k o)) (sym more) (subst (λ (x : Outcome). Tells parts text x) (raised-twice slash b m o) (carries (raised b 1 o) at))
 
 pub carried : (parts : List Part) (text : List ℕ) (slash : Bool) (m : ℕ) (left : List Part) (here : List ℕ) (last : Part) (ps : List Part) (p : Part)

@@ -30,7 +30,7 @@ anything-loop-more-preserved t c = (
   search rules,
   passed-char _ _ _ _ _ c.loop-more.invariant.1 c.in-Here.ensures.0 c.in-Some.ensures.chars,
   subst (λ (o : Option ℕ). AreSpared c.args.parts.now (chars c.in-Some.rest.now) o) (sym c.before-spared.ensures)
-  (spared-before c.args.parts.now (chars c.loop-more.here.now) (chars c.in-Some.rest.now) c.in-Some.c c.in-Here.more c.in-Some.ensures.chars c.in-Here.ensures.1),
+      (spared-before c.args.parts.now (chars c.loop-more.here.now) (chars c.in-Some.rest.now) c.in-Some.c c.in-Here.more c.in-Some.ensures.chars c.in-Here.ensures.1),
 )
 
 -- ---- `**/`
