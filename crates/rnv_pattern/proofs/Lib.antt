@@ -1,4 +1,4 @@
-pub mod Ends
+pub mod Fronts
 pub mod Pieces
 pub mod Learned
 pub mod Characters
