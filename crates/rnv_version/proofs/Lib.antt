@@ -6,3 +6,4 @@ pub mod CargoClean
 pub mod CargoMet
 pub mod CargoReads
 pub mod CargoGiven
+pub mod TagGrammar

@@ -1,7 +1,7 @@
-ghost use Rattle.std.specs.Prelude.{◌≡◌, true};
+ghost use Rattle.std.specs.Prelude.{◌≡◌, true, Some, None, IfOk, IsErrOf};
 ghost use Rattle.rnv_version.specs.Cargo.{cargo_range, cargo_version, is_met, is_pinned};
 ghost use Rattle.rnv_version.specs.CargoNew.{cargo_new_text};
-ghost use Rattle.rnv_version.specs.SemVer.{first_numbers, has_no_pre, version_cmp, version_total};
+ghost use Rattle.rnv_version.specs.SemVer.{IsVersion, Version, first_numbers, has_no_pre, version_cmp, version_total};
 ghost use Rattle.rnv_version.specs.Kind as kinds;
 
 use crate::cargo::new_value::new_text;
@@ -43,7 +43,13 @@ impl Versioning for CargoVersioning {
 
     ghost new_text = { λ m strategy value version. cargo_new_text strategy value version };
 
-    fn version(&self, alloc: Global, text: &str) -> Result<CargoVersion, VersionError> {
+    fn version(&self, alloc: Global, text: &str) -> Result<CargoVersion, VersionError>
+        ensures value { IfOk result (λ v. cargo_version text.now ≡ Some v) }
+        ensures grammar { IfOk result (λ v. IsVersion text.now v) }
+        ensures not { IsErrOf result VersionError.NotAVersion → cargo_version text.now ≡ None }
+        ensures no_grammar { IsErrOf result VersionError.NotAVersion
+            → (v : Version) → ¬ IsVersion text.now v }
+    {
         read_version(alloc, text)
     }
 

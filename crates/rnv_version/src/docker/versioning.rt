@@ -1,10 +1,10 @@
-ghost use Rattle.std.specs.Prelude.{◌≡◌, true, Some, refl};
+ghost use Rattle.std.specs.Prelude.{◌≡◌, true, Some, None, IfOk, IsErrOf};
 ghost use Rattle.std.specs.Cmp.Lexicographic.{pointwise};
-ghost use Rattle.rnv_version.specs.Docker.{are_alike, docker_new_text, docker_tag, same_text, tag_cmp, tag_numbers, tag_total};
+ghost use Rattle.rnv_version.specs.Docker.{IsTag, Tag, are_alike, docker_new_text, docker_tag, same_text, tag_cmp, tag_numbers, tag_total};
 ghost use Rattle.rnv_version.specs.Kind as kinds;
 
 use crate::docker::DockerVersion;
-use crate::docker::read::read_tag;
+use crate::docker::read::{read_range, read_version};
 use crate::{Numbers, RangeError, VersionError, Versioning, kind_between};
 use rnv_base::{Strategy, Text, UpdateKind};
 use std::alloc::{AllocError, Global};
@@ -41,12 +41,22 @@ impl Versioning for DockerVersioning {
 
     ghost new_text = { λ m strategy value version. docker_new_text strategy version };
 
-    fn version(&self, alloc: Global, text: &str) -> Result<DockerVersion, VersionError> {
-        read_tag(alloc, text)?.ok_or(VersionError::NotAVersion)
+    fn version(&self, alloc: Global, text: &str) -> Result<DockerVersion, VersionError>
+        ensures value { IfOk result (λ v. docker_tag text.now ≡ Some v) }
+        ensures grammar { IfOk result (λ v. IsTag text.now v) }
+        ensures not { IsErrOf result VersionError.NotAVersion → docker_tag text.now ≡ None }
+        ensures no_grammar { IsErrOf result VersionError.NotAVersion → (t : Tag) → ¬ IsTag text.now t }
+    {
+        read_version(alloc, text)
     }
 
-    fn range(&self, alloc: Global, text: &str) -> Result<DockerVersion, RangeError> {
-        read_tag(alloc, text)?.ok_or(RangeError::NotARange)
+    fn range(&self, alloc: Global, text: &str) -> Result<DockerVersion, RangeError>
+        ensures value { IfOk result (λ r. docker_tag text.now ≡ Some r) }
+        ensures grammar { IfOk result (λ r. IsTag text.now r) }
+        ensures not { IsErrOf result RangeError.NotARange → docker_tag text.now ≡ None }
+        ensures no_grammar { IsErrOf result RangeError.NotARange → (t : Tag) → ¬ IsTag text.now t }
+    {
+        read_range(alloc, text)
     }
 
     fn compare(&self, a: &DockerVersion, b: &DockerVersion) -> Ordering {
