@@ -1,5 +1,5 @@
 -- A day text from its two parts, and texts by their first word.
-use Rattle.std.proofs.Common.{arith, ◌≡◌, ◌-◌, ◌≤◌, ℕ, List, [], ◌∷◌, length, take, drop, get_or, false, sym, ap, ◌∙◌, Option, None}
+use Rattle.std.proofs.Common.{arith, ◌≡◌, ◌-◌, ◌≤◌, ℕ, List, [], ◌∷◌, length, take, drop, get_or, false, sym, ap, ◌∙◌, Option}
 use Rattle.std.specs.Prelude.{codes}
 use Rattle.std.specs.List.{position_or_len}
 use Rattle.std.specs.Str.{bytes_eq}

@@ -1,8 +1,6 @@
 -- The values of each of a list, one after another.
-use Rattle.std.proofs.Common.{rules, arith, ◌≡◌, ◌+◌, ◌<◌, ◌≤◌, ℕ, zero, suc, List, [], ◌∷◌, ◌++◌, length, take, get_or, map, refl, sym, ap, subst, ◌∙◌, Option, Some, None, add-one}
-use Rattle.std.specs.Prelude.{option_map}
+use Rattle.std.proofs.Common.{arith, ◌≡◌, ◌+◌, ◌<◌, ℕ, zero, suc, List, [], ◌∷◌, ◌++◌, length, take, get_or, map, refl, sym, ap, ◌∙◌, Option, Some, None, add-one}
 use denote.Ref.{Bor}
-use Rattle.std.proofs.lemmas.List.{take_all}
 use Rattle.rnv_schedule.specs.Words.{each, texts, with_each}
 
 parts_of : {A : Type 0} (a : Option A) (b : Option (List A)) (values : List A) → with_each a b ≡ Some values → (x : A) × (xs : List A) × (a ≡ Some x) × (b ≡ Some xs) × (values ≡ x ∷ xs)

@@ -1,9 +1,8 @@
 -- Days that are read one after another.
-use Rattle.std.proofs.Common.{rules, arith, ◌≡◌, ◌+◌, ◌-◌, ◌<◌, ◌≤◌, ℕ, zero, suc, List, [], ◌∷◌, ◌++◌, length, drop, get_or, map, Bool, true, false, refl, sym, ap, ◌∙◌, ◌⊎◌, inl, inr, Option, Some, None, append_assoc, add-one}
+use Rattle.std.proofs.Common.{arith, ◌≡◌, ◌+◌, ◌<◌, ◌≤◌, ℕ, zero, suc, List, [], ◌∷◌, ◌++◌, length, drop, get_or, Bool, true, false, refl, sym, ap, ◌∙◌, Option, Some, None, append_assoc}
 use Rattle.std.specs.Prelude.{if◌then◌else◌, codes}
 use denote.Ref.{Bor}
-use Rattle.std.proofs.lemmas.Bool.{cases_Bool, cond-true, cond-false}
-use Rattle.std.proofs.lemmas.List.{append-nil, drop-map, length-drop, length-map}
+use Rattle.std.proofs.lemmas.List.{drop-map, length-drop, length-map}
 use Rattle.std.proofs.Math.Seq.{drop-cons}
 use Rattle.rnv_schedule.specs.DayTexts.{day_names, named_days}
 use Rattle.rnv_schedule.specs.Joined.{first_day, joined_day}

@@ -1,5 +1,5 @@
 -- Lists that are seen through a function.
-use Rattle.std.proofs.Common.{rules, arith, ◌≡◌, ◌+◌, ℕ, List, [], ◌∷◌, length, map, Bool, refl, sym, ap, ◌∙◌, cond, Option, Some, None}
+use Rattle.std.proofs.Common.{arith, ◌≡◌, ◌+◌, ℕ, List, [], ◌∷◌, length, map, Bool, refl, sym, ap, ◌∙◌, cond, Some, None}
 use Rattle.std.specs.Prelude.{nat_lt, not, ◌||◌, ◌&&◌}
 use Rattle.std.specs.List.{list_all, list_any, position, position_or_len, prefix_len, zip}
 use Rattle.std.specs.Cmp.Lexicographic.{pointwise}

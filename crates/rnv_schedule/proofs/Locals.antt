@@ -1,7 +1,7 @@
 -- A moment has one local date and hour in a zone.
-use Rattle.std.proofs.Common.{rules, arith, ◌≡◌, ◌+◌, ◌%◌, ◌∷◌, ℕ, ℤ, pos, ◌+ℤ◌, ◌*ℤ◌, List, Option, Some, None, Bool, true, false, refl, sym, ap, ◌∙◌, subst}
+use Rattle.std.proofs.Common.{arith, ◌≡◌, ◌+◌, ◌%◌, ℕ, ℤ, pos, ◌+ℤ◌, ◌*ℤ◌, List, Option, Some, None, Bool, true, false, refl, sym, ap, ◌∙◌}
 use Rattle.std.specs.Prelude.{◌-ℤ◌, if◌then◌else◌, ◌&&◌, ◌||◌, int_lt, option_map}
-use Rattle.jiff_core.specs.Date.{weekday_of, epoch_day}
+use Rattle.jiff_core.specs.Date.{weekday_of}
 use Rattle.jiff_core.specs.Calendar.{weekday_number}
 use Rattle.jiff_core.specs.DateTime.{civil_nanos}
 use Rattle.jiff_core.specs.Time.{time_nanos}
@@ -22,7 +22,7 @@ use Rattle.jiff_tz.specs.declared.posix.TimeZone.{TimeZone as Rule}
 use Rattle.jiff_tz.specs.declared.timezone.TimeZone.{TimeZone}
 use Rattle.jiff_tz.specs.declared.timezone.TimeZone.TheVariants.{UTC, Unknown, Fixed, Posix, Tzif}
 use Rattle.jiff.specs.Placed.{IsPosixZone}
-use Rattle.rnv_schedule.specs.Clock.{IsClock, IsLocal, IsRule, IsShown}
+use Rattle.rnv_schedule.specs.Clock.{IsLocal, IsRule, IsShown}
 use Rattle.rnv_schedule.specs.declared.shown.Local.{Local}
 
 -- ---- the offset of a rule is in what its text says

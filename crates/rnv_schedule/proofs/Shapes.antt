@@ -1,8 +1,8 @@
 -- Lists of words that have none of the forms of the grammar.
-use Rattle.std.proofs.Common.{rules, arith, ◌≡◌, ◌<◌, ◌≤◌, ℕ, List, [], ◌∷◌, length, get_or, refl, Option, None, ◌≢◌}
+use Rattle.std.proofs.Common.{arith, ◌≡◌, ◌<◌, ◌≤◌, ℕ, List, [], ◌∷◌, length, get_or, refl, None, ◌≢◌}
 use denote.Ref.{Bor}
 use Rattle.rnv_schedule.specs.Words.{texts}
-use Rattle.rnv_schedule.specs.Cron.{Locals, Numbers, cron_of, item_of, range_of, rising, value_of}
+use Rattle.rnv_schedule.specs.Cron.{cron_of, item_of, range_of, rising, value_of}
 use Rattle.rnv_schedule.specs.DayTexts.{every_of, hours_of}
 use Rattle.rnv_schedule.specs.declared.field.Field.{Field}
 

@@ -1,10 +1,10 @@
 -- Steps that are above every distance within a field, and lists of sets.
-use Rattle.std.proofs.Common.{rules, arith, ◌≡◌, ◌+◌, ◌-◌, ◌%◌, ◌<◌, ◌≤◌, ℕ, min, Bool, true, false, refl, sym, ap, ◌∙◌, ◌⊎◌, inl, inr, Option, Some, None}
+use Rattle.std.proofs.Common.{arith, ◌≡◌, ◌-◌, ◌%◌, ◌<◌, ◌≤◌, ℕ, min, Bool, true, false, refl, sym, ap, ◌∙◌, inl, inr, Option, Some, None}
 use Rattle.std.specs.Prelude.{◌==◌, ◌&&◌, nat_le, option_map}
 use mathlib.Core.Path.{fun_ext}
 use Rattle.std.proofs.Math.Nat.{mod-eq_of_lt}
 use Rattle.std.proofs.lemmas.Bool.{cases_Bool, cases_lt, leb-true}
-use Rattle.rnv_schedule.specs.Cron.{Numbers, range_of, step_of, stepped, stepped_by}
+use Rattle.rnv_schedule.specs.Cron.{Numbers, stepped, stepped_by}
 
 -- ---- steps
 

@@ -1,5 +1,5 @@
 -- Cron texts: the sets of hours, days, months and weekdays that their fields name.
-use Rattle.std.specs.Prelude.{ℕ, ◌+◌, ◌-◌, ◌%◌, ◌==◌, ◌&&◌, ◌||◌, nat_le, Bool, true, false, List, [], ◌∷◌, map, codes, Option, Some, None, option_map, option_and_then, if◌then◌else◌}
+use Rattle.std.specs.Prelude.{ℕ, ◌+◌, ◌-◌, ◌%◌, ◌==◌, ◌&&◌, ◌||◌, nat_le, Bool, false, List, [], ◌∷◌, map, codes, Option, Some, None, option_map, option_and_then, if◌then◌else◌}
 use Rattle.std.specs.List.{list_any}
 use Rattle.std.specs.Option.{option_or}
 use Rattle.std.specs.Str.{bytes_eq}
@@ -56,10 +56,9 @@ rising None last = None
 
 -- the ends of `*` or `A-B`, from its parts between dashes
 abbrev pub range_of : Field → List (List ℕ) → Option (ℕ × ℕ)
-range_of field [] = None
 range_of field (star ∷ []) = if bytes_eq star (codes "*") then Some (least field, greatest field) else None
 range_of field (first ∷ last ∷ []) = rising (value_of field first) (value_of field last)
-range_of field (first ∷ last ∷ more ∷ parts) = None
+range_of field parts = None
 
 -- the same, or of `A` alone
 abbrev pub ends_of : Field → List ℕ → Option (ℕ × ℕ)
@@ -80,10 +79,9 @@ stepped_by None ends = None
 
 -- an item, from its parts between slashes: a step may stand behind `*` and `A-B`
 abbrev pub item_of : Field → List (List ℕ) → Option Numbers
-item_of field [] = None
 item_of field (item ∷ []) = option_map (stepped 1) (ends_of field item)
 item_of field (range ∷ step ∷ []) = stepped_by (step_of step) (range_of field (pieces 45 range))
-item_of field (range ∷ step ∷ more ∷ parts) = None
+item_of field parts = None
 
 -- ---- fields
 
@@ -123,10 +121,6 @@ cron_with hours days months weekdays starred =
 
 -- what follows `*`: hours, days, months and weekdays
 abbrev pub cron_of : List (List ℕ) → Option Locals
-cron_of [] = None
-cron_of (hours ∷ []) = None
-cron_of (hours ∷ days ∷ []) = None
-cron_of (hours ∷ days ∷ months ∷ []) = None
 cron_of (hours ∷ days ∷ months ∷ weekdays ∷ []) =
     cron_with (field_of Hour hours) (field_of Day days) (field_of Month months) (field_of Weekday weekdays) (begins_with_star days || begins_with_star weekdays)
-cron_of (hours ∷ days ∷ months ∷ weekdays ∷ more ∷ fields) = None
+cron_of fields = None

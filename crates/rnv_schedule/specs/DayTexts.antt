@@ -1,5 +1,5 @@
 -- Day texts: hours and days in words.
-use Rattle.std.specs.Prelude.{ℕ, ◌+◌, ◌-◌, ◌%◌, ◌==◌, ◌&&◌, ◌||◌, nat_le, nat_lt, Bool, true, false, List, [], ◌∷◌, ◌++◌, length, map, take, drop, codes, Option, Some, None, option_map, option_and_then, if◌then◌else◌}
+use Rattle.std.specs.Prelude.{ℕ, ◌+◌, ◌-◌, ◌%◌, ◌==◌, ◌&&◌, ◌||◌, nat_le, nat_lt, Bool, true, List, [], ◌∷◌, ◌++◌, length, map, take, drop, codes, Option, Some, None, option_map, option_and_then, if◌then◌else◌}
 use Rattle.std.specs.List.{list_any, position_or_len}
 use Rattle.rnv_schedule.specs.Cron.{Locals, Numbers}
 use Rattle.rnv_schedule.specs.Words.{are_words, is_word, place_of, with_each}
@@ -41,13 +41,10 @@ are_bounds after and before =
 -- the hours of a time part
 abbrev pub hours_of : List (List ℕ) → Option Numbers
 hours_of [] = Some (λ hour. true)
-hours_of (word ∷ []) = None
 hours_of (word ∷ hour ∷ []) = option_and_then (bound_of word) (hour_of hour)
-hours_of (word ∷ hour ∷ more ∷ []) = None
-hours_of (word ∷ hour ∷ more ∷ and_more ∷ []) = None
 hours_of (after ∷ first ∷ and ∷ before ∷ last ∷ []) =
     if are_bounds after and before then option_and_then (λ a. option_map (λ b. between a b) (hour_of last)) (hour_of first) else None
-hours_of (after ∷ first ∷ and ∷ before ∷ last ∷ more ∷ words) = None
+hours_of words = None
 
 -- ---- days
 
@@ -65,23 +62,22 @@ named_days (name ∷ and ∷ names) =
 abbrev pub among : List ℕ → Locals
 among weekdays at = list_any (λ weekday. weekday == at.weekday) weekdays
 
-abbrev pub first_day : List (List ℕ)
-first_day = codes "the" ∷ codes "first" ∷ codes "day" ∷ codes "of" ∷ codes "the" ∷ codes "month" ∷ []
+abbrev pub first_of_month : List (List ℕ)
+first_of_month = codes "the" ∷ codes "first" ∷ codes "day" ∷ codes "of" ∷ codes "the" ∷ codes "month" ∷ []
 
 -- what follows `on`: days, or the first day of the month
 abbrev pub on_of : List (List ℕ) → Option Locals
-on_of words = if are_words first_day words then Some (λ at. at.day == 1) else option_map among (named_days words)
+on_of words = if are_words first_of_month words then Some (λ at. at.day == 1) else option_map among (named_days words)
 
 -- what follows `every`: Monday to Friday, Saturday and Sunday, or one day
 abbrev pub every_of : List (List ℕ) → Option Locals
-every_of [] = None
 every_of (name ∷ []) =
     if is_word (codes "weekday") name
     then Some (among (1 ∷ 2 ∷ 3 ∷ 4 ∷ 5 ∷ []))
     else (if is_word (codes "weekend") name
     then Some (among (0 ∷ 6 ∷ []))
     else option_map (λ day. among (day ∷ [])) (place_of day_names name))
-every_of (name ∷ more ∷ words) = None
+every_of words = None
 
 -- the dates of a day part
 abbrev pub days_of : List (List ℕ) → Option Locals

@@ -1,5 +1,4 @@
-use Rattle.std.proofs.Common.{arith, ◌≡◌, ◌*◌, ◌≤◌, ◌∙◌, ℕ, Option, Some, None, ap, sym, refl, length, take}
-use Rattle.std.specs.Prelude.{option_map}
+use Rattle.std.proofs.Common.{arith, ◌*◌, ◌≤◌, ◌∙◌, ℕ, Some, None, ap, sym, refl, length, take}
 use Rattle.std.proofs.lemmas.List.{length-take}
 use Rattle.rnv_schedule.specs.Ages.{past_space, unit_seconds}
 use Rattle.rnv_schedule.proofs.AgeTexts.{age_long, age_short, rest_is}

@@ -1,12 +1,10 @@
-use Rattle.std.proofs.Common.{rules, arith, ◌≡◌, ◌<◌, ◌+◌, ◌%◌, ◌^◌, ℕ, ℤ, pos, ◌*ℤ◌, to_z, of_z, w8, w64, ap, subst, sym, ◌∙◌}
+use Rattle.std.proofs.Common.{arith, ◌≡◌, ◌<◌, ◌+◌, ◌%◌, ◌^◌, ℕ, ℤ, pos, to_z, of_z, w8, w64, ap, subst, ◌∙◌}
 use Rattle.std.proofs.lemmas.Int.{ints}
 use lib.IntN.{nat_abs}
 use lib.Signed.{mag}
 use Rattle.jiff_core.specs.Timestamp.{nanos_of_seconds}
 use Rattle.rnv_schedule.specs.Clock.{IsClock}
 use Rattle.rnv_schedule.proofs.Locals.{local_only}
-use Rattle.rnv_schedule.specs.Clock.{IsLocal}
-use Rattle.rnv_schedule.specs.declared.shown.Local.{Local}
 use Rattle.rnv_schedule.proofs.clock.local.Goals as goal
 
 -- a small number is the same as a signed byte and as a byte

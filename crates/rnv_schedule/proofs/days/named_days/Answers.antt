@@ -1,4 +1,4 @@
-use Rattle.std.proofs.Common.{arith, ◌+◌, ◌<◌, ◌++◌, ◌∷◌, [], ◌∙◌, ap, sym, ℕ, List, Some, length, drop}
+use Rattle.std.proofs.Common.{arith, ◌+◌, ◌<◌, ◌∙◌, ap, sym, ℕ, List, Some, length, drop}
 use Rattle.rnv_schedule.specs.DayTexts.{named_days}
 use Rattle.rnv_schedule.specs.Words.{texts}
 use Rattle.rnv_schedule.proofs.Joining.{behind, ends_here, goes_on, none_named, refused_here}

@@ -1,4 +1,4 @@
-use Rattle.std.proofs.Common.{arith, ◌≡◌, ◌++◌, ◌∷◌, [], ◌∙◌, ap, sym, map, ℕ, List, Option, Some, None}
+use Rattle.std.proofs.Common.{◌∷◌, [], ◌∙◌, ap, sym, map, ℕ, List, Option, Some}
 use Rattle.std.specs.Prelude.{option_map}
 use denote.Ref.{Bor}
 use Rattle.std.proofs.lemmas.List.{map-append, take_all}

@@ -1,7 +1,6 @@
 use Rattle.std.proofs.Common.{◌∙◌, ap, sym, refl, Option, Some, None}
 use Rattle.std.specs.Prelude.{option_map}
-use Rattle.rnv_schedule.specs.Cron.{Locals}
-use Rattle.rnv_schedule.specs.DayTexts.{both_parts, day_text_of, days_of}
+use Rattle.rnv_schedule.specs.DayTexts.{day_text_of}
 use Rattle.rnv_schedule.specs.Schedules.{days_set, hours_set, kind_set}
 use Rattle.rnv_schedule.specs.Words.{texts}
 use Rattle.rnv_schedule.specs.declared.hours.Hours.{Hours}

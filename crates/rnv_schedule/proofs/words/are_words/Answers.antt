@@ -1,4 +1,4 @@
-use Rattle.std.proofs.Common.{rules, arith, ◌∙◌, ℕ, List, ap, refl}
+use Rattle.std.proofs.Common.{rules, ◌∙◌, ℕ, List, ap, refl}
 use Rattle.std.specs.Slice.Iter.{iter_rest}
 use borrow.Author.Tests.{tests}
 use denote.Ref.{Bor}
