@@ -1,0 +1,10 @@
+pub mod AgeTexts
+pub mod DayParts
+pub mod Digits
+pub mod Eachs
+pub mod Joining
+pub mod Lists
+pub mod Locals
+pub mod Refusals
+pub mod Shapes
+pub mod Spans

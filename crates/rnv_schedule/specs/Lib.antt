@@ -1,0 +1,9 @@
+pub mod Ages
+pub mod Asking
+pub mod Clock
+pub mod Cron
+pub mod DayTexts
+pub mod Joined
+pub mod Numbers
+pub mod Schedules
+pub mod Words
