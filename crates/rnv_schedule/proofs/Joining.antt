@@ -17,9 +17,6 @@ behind-with_each : (before : List ℕ) (day : ℕ) (rest : Option (List ℕ)) �
 behind-with_each before day (Some days) = ap (λ (l : List ℕ). Some l) (sym (append_assoc before (day ∷ []) days))
 behind-with_each before day None = refl
 
-none_with : (rest : Option (List ℕ)) → with_each None rest ≡ None
-none_with rest = refl
-
 joined : (name and : List ℕ) (rest : Option (List ℕ)) → (if is_word (codes "and") and then with_each (place_of day_names name) rest else None) ≡ with_each (joined_day name and) rest
 joined name and rest = chosen (is_word (codes "and") and) where
   chosen : (b : Bool) → (if b then with_each (place_of day_names name) rest else None) ≡ with_each (if b then place_of day_names name else None) rest
@@ -27,10 +24,6 @@ joined name and rest = chosen (is_word (codes "and") and) where
   chosen false = refl
 
 -- ---- the names from a place on
-
-pub empty_named : (words : List (List ℕ)) → length words ≡ 0 → named_days words ≡ None
-empty_named [] h = refl
-empty_named (a ∷ words) h = absurd (omega arith)
 
 pub none_named : (words : List (List ℕ)) → first_day words ≡ None → named_days words ≡ None
 none_named [] e = refl

@@ -82,7 +82,10 @@ fn holds_by_fields(rt: HostRuntime) -> Result<(), Fail> {
         ("* * 1-31/2 * *", 1, 31, 0, 0, true),
         ("* * 1-31/2 * *", 1, 2, 0, 0, false),
         ("* * */2 * *", 1, 1, 0, 0, true),
+        ("* 0 1 1 0", 1, 1, 0, 0, true),
         ("* 23 31 12 7", 12, 31, 23, 0, true),
+        ("* * * */5 *", 11, 1, 0, 0, true),
+        ("* * * * 1-7/2", 1, 1, 0, 0, true),
         ("* 00,08 * JAN-feb,dec *", 2, 1, 8, 0, true),
         ("* 0,8 * jan-feb,dec *", 3, 1, 8, 0, false),
         ("* * * * sun", 1, 1, 0, 0, true),
@@ -160,6 +163,7 @@ fn shown(alloc: Global, rule: &str, moment: &str) -> Result<Local, Fail> {
 #[test]
 fn shows_local_dates(rt: HostRuntime) -> Result<(), Fail> {
     let york = "EST5EDT,M3.2.0,M11.1.0";
+    let sydney = "AEST-10AEDT,M10.1.0,M4.1.0/3";
     // rule, moment, month, day, hour, weekday
     let rows = [
         ("", "1970-01-01T00:00:00Z", 1, 1, 0, 4),
@@ -173,6 +177,8 @@ fn shows_local_dates(rt: HostRuntime) -> Result<(), Fail> {
         (york, "2024-11-03T05:59:59Z", 11, 3, 1, 0),
         (york, "2024-11-03T06:00:00Z", 11, 3, 1, 0),
         (york, "2024-11-03T07:00:00Z", 11, 3, 2, 0),
+        (sydney, "2023-12-31T13:00:00Z", 1, 1, 0, 1),
+        (sydney, "2024-07-01T14:00:00Z", 7, 2, 0, 2),
     ];
     for (rule, moment, month, day, hour, weekday) in rows {
         let want = Local {
