@@ -15,7 +15,7 @@ mod versioning;
 pub use cargo::{CargoRange, CargoVersion, CargoVersioning};
 pub use docker::{DockerVersion, DockerVersioning};
 pub use error::{RangeError, VersionError};
-use kind::kind_between;
+pub use kind::kind_between;
 pub use numbers::Numbers;
 pub use plain::{Place, Places, Plain, plain_of, renumbered};
 pub use versioning::Versioning;
