@@ -18,4 +18,5 @@ pub use error::{RangeError, VersionError};
 pub use kind::kind_between;
 pub use numbers::Numbers;
 pub use plain::{Place, Places, Plain, plain_of, renumbered};
+pub use texts::number;
 pub use versioning::Versioning;
