@@ -1,3 +1,9 @@
 pub mod Version
-pub mod Order
 pub mod Exact
+pub mod Partials
+pub mod Comparators
+pub mod Ranges
+pub mod Grammar
+pub mod RangeTexts
+pub mod NewTexts
+pub mod Reading

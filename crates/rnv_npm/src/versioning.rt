@@ -1,75 +1,28 @@
-ghost use Rattle.std.specs.Prelude.{◌≡◌, ◌↔◌, [], Some, None, IsTrue, IfOk, IsErrOf, MatchOption};
-ghost use Rattle.rnv_npm.specs.Version.{Version, HoldsText, IsVersion, npm_version, unmarked};
-ghost use Rattle.rnv_npm.specs.Order.{version_cmp, kind_between};
+ghost use Rattle.std.specs.Prelude.{◌≡◌, List, true, Some, None, IfOk, IsErrOf, MatchOption};
+ghost use Rattle.rnv_version.specs.SemVer.{Version, first_numbers, has_no_pre, version_cmp, version_total};
+ghost use Rattle.rnv_version.specs.Kind as kinds;
+ghost use Rattle.rnv_npm.specs.Version.{HoldsText, IsVersion, npm_version, unmarked};
 ghost use Rattle.rnv_npm.specs.Exact.{Exact, IsExact, exact_of, renumbered, new_text};
-ghost use Rattle.std.specs.Cmp.{IsTotalOrder};
+ghost use Rattle.rnv_npm.specs.Ranges.{npm_range, is_satisfied, is_exact};
+ghost use Rattle.rnv_npm.specs.Comparators.{Comparator};
+ghost use Rattle.rnv_npm.specs.Grammar.{IsRange};
+ghost use Rattle.rnv_npm.specs.NewTexts.{npm_new_text};
 
-use crate::exact::{new_text, read_exact};
+use crate::exact::{read_exact, with_version};
+use crate::new_value::new_text;
 use crate::read::{plain_version, unmarked};
-use crate::{ExactValue, NpmVersion, Numbers, VersionError};
-use rnv_base::{Text, UpdateKind};
+use crate::{ExactValue, NpmVersion, Range};
+use rnv_base::{Strategy, Text, UpdateKind};
+use rnv_version::{Numbers, RangeError, VersionError, Versioning, kind_between};
 use std::alloc::{AllocError, Global};
 use std::cmp::Ordering;
 
-/// How npm reads, compares and writes versions.
+/// How npm reads, compares and writes versions, and the ranges that package.json states, after
+/// node-semver.
 #[derive(Clone, Copy, Debug)]
 pub struct NpmVersioning;
 
 impl NpmVersioning {
-    /// The version that a text is: SemVer 2.0.0 after at most one `v` or `=`, with three numbers of
-    /// at most 9007199254740991. `NotAVersion` only for other texts, and for all of them where no
-    /// memory is needed. Only a pre-release and a build need memory.
-    pub fn version(&self, alloc: Global, text: &str) -> Result<NpmVersion, VersionError>
-        ensures value { IfOk result (λ v. npm_version text.now ≡ Some v) }
-        ensures grammar { IfOk result (λ v. IsVersion text.now v) }
-        ensures not { IsErrOf result VersionError.NotAVersion → npm_version text.now ≡ None }
-        ensures no_grammar { IsErrOf result VersionError.NotAVersion
-            → (v : Version) → ¬ IsVersion text.now v }
-        ensures memory { IsErrOf result VersionError.Memory → HoldsText (unmarked text.now) }
-    {
-        plain_version(alloc, unmarked(text))
-    }
-
-    /// The precedence of SemVer 2.0.0, section 11. Builds are ignored, so versions that differ in
-    /// them alone are equal.
-    pub fn compare(&self, a: &NpmVersion, b: &NpmVersion) -> Ordering
-        ensures value { result ≡ version_cmp a.now b.now }
-        ensures preorder { IsTotalOrder version_cmp }
-    {
-        a.inner.cmp_precedence(&b.inner)
-    }
-
-    /// Whether a version has no pre-release.
-    pub fn stable(&self, version: &NpmVersion) -> bool
-        ensures { IsTrue result ↔ (version.now.pre ≡ []) }
-    {
-        version.inner.pre.is_empty()
-    }
-
-    /// Major if the first numbers differ, else minor if the second do, else patch.
-    pub fn kind(&self, from: &NpmVersion, to: &NpmVersion) -> UpdateKind
-        ensures { result ≡ kind_between from.now to.now }
-    {
-        if from.inner.major != to.inner.major {
-            UpdateKind::Major
-        } else if from.inner.minor != to.inner.minor {
-            UpdateKind::Minor
-        } else {
-            UpdateKind::Patch
-        }
-    }
-
-    /// The first two numbers of a version.
-    pub fn numbers(&self, version: &NpmVersion) -> Numbers
-        ensures major { result.major ≡ version.now.major }
-        ensures minor { result.minor ≡ version.now.minor }
-    {
-        Numbers {
-            major: version.inner.major,
-            minor: version.inner.minor,
-        }
-    }
-
     /// The parts of a value that names one version: spaces, `=`, spaces, `v`, a version of SemVer
     /// 2.0.0 with numbers of at most 9007199254740991, and spaces, where only the version must
     /// stand. `None` exactly for other values.
@@ -84,7 +37,7 @@ impl NpmVersioning {
     /// The text of an exact value with another version in it: its numbers, and its pre-release, if
     /// it has one, in place of the old pre-release and build. Its build is not written. What stands
     /// around the version stays.
-    pub fn new_value(
+    pub fn with_version(
         &self,
         alloc: Global,
         value: &ExactValue,
@@ -93,6 +46,111 @@ impl NpmVersioning {
         ensures value { IfOk result (λ t. t ≡ new_text value.now version.now) }
         ensures again { IfOk result (λ t. exact_of t ≡ Some (renumbered value.now version.now)) }
     {
-        new_text(alloc, value, version)
+        with_version(alloc, value, version)
     }
+}
+
+impl Versioning for NpmVersioning {
+    type Version = NpmVersion;
+
+    type Range = Range;
+
+    ghost version_of = { λ m text. npm_version text };
+
+    ghost range_of = { λ m text. npm_range text };
+
+    ghost order = { λ m. version_cmp };
+
+    ghost are_comparable = { λ m a b. true };
+
+    ghost is_satisfied = { λ m range version. is_satisfied range version };
+
+    ghost is_exact = { λ m range. is_exact range };
+
+    ghost is_stable = { λ m version. has_no_pre version };
+
+    ghost kind_between = { λ m from to. kinds.kind_between (first_numbers from) (first_numbers to) };
+
+    ghost numbers_of = { λ m version. first_numbers version };
+
+    ghost new_text = { λ m strategy value version. npm_new_text strategy value version };
+
+    /// The version that a text is: SemVer 2.0.0 after at most one `v` or `=`, with three numbers of
+    /// at most 9007199254740991. `NotAVersion` only for other texts, and for all of them where no
+    /// memory is needed. Only a pre-release and a build need memory.
+    fn version(&self, alloc: Global, text: &str) -> Result<NpmVersion, VersionError>
+        ensures value { IfOk result (λ v. npm_version text.now ≡ Some v) }
+        ensures grammar { IfOk result (λ v. IsVersion text.now v) }
+        ensures not { IsErrOf result VersionError.NotAVersion → npm_version text.now ≡ None }
+        ensures no_grammar { IsErrOf result VersionError.NotAVersion
+            → (v : Version) → ¬ IsVersion text.now v }
+        ensures memory { IsErrOf result VersionError.Memory → HoldsText (unmarked text.now) }
+    {
+        plain_version(alloc, unmarked(text))
+    }
+
+    fn range(&self, alloc: Global, text: &str) -> Result<Range, RangeError>
+        ensures value { IfOk result (λ r. npm_range text.now ≡ Some r) }
+        ensures grammar { IfOk result (λ r. IsRange text.now r) }
+        ensures not { IsErrOf result RangeError.NotARange → npm_range text.now ≡ None }
+        ensures no_grammar { IsErrOf result RangeError.NotARange
+            → (sets : List (List Comparator)) → ¬ IsRange text.now sets }
+    {
+        Range::read(alloc, text)
+    }
+
+    fn compare(&self, a: &NpmVersion, b: &NpmVersion) -> Ordering {
+        a.inner.cmp_precedence(&b.inner)
+    }
+
+    fn comparable(&self, _a: &NpmVersion, _b: &NpmVersion) -> bool {
+        true
+    }
+
+    fn satisfies(&self, range: &Range, version: &NpmVersion) -> bool {
+        range.satisfies(version)
+    }
+
+    fn exact(&self, range: &Range) -> bool {
+        range.is_exact()
+    }
+
+    fn stable(&self, version: &NpmVersion) -> bool {
+        version.inner.pre.is_empty()
+    }
+
+    fn kind(&self, from: &NpmVersion, to: &NpmVersion) -> UpdateKind {
+        kind_between(self.numbers(from), self.numbers(to))
+    }
+
+    fn numbers(&self, version: &NpmVersion) -> Numbers {
+        Numbers {
+            major: version.inner.major,
+            minor: version.inner.minor,
+        }
+    }
+
+    fn new_value(
+        &self,
+        alloc: Global,
+        strategy: Strategy,
+        value: &str,
+        version: &str,
+    ) -> Result<Option<Text>, AllocError> {
+        let range = match Range::read(alloc, value) {
+            Ok(range) => range,
+            Err(RangeError::NotARange) => unreachable!(),
+            Err(RangeError::Memory) => return Err(AllocError),
+        };
+        let version = match self.version(alloc, version) {
+            Ok(version) => version,
+            Err(VersionError::NotAVersion) => unreachable!(),
+            Err(VersionError::Memory) => return Err(AllocError),
+        };
+        new_text(alloc, strategy, value, &range, &version)
+    }
+
+    fn keeps_laws(&self) {}
+
+    ghost total = { λ m. version_total };
 }

@@ -9,7 +9,8 @@ use Rattle.std.specs.declared.cmp.Ordering.TheVariants.{Less, Equal, Greater}
 use Rattle.std.proofs.lemmas.Bool.{cases_Bool}
 use Rattle.std.proofs.lemmas.Option.{option_and_then_some}
 use Rattle.std.proofs.lemmas.List.Elements.{All-nil, All-cons, All-contains}
-use Rattle.rnv_npm.specs.Version.{Version, npm_version}
+use Rattle.rnv_version.specs.SemVer.{Version}
+use Rattle.rnv_npm.specs.Version.{npm_version}
 use Rattle.rnv_npm.specs.Exact.{Exact, exact_of}
 use Rattle.rnv_release.specs.declared.release.Release.{Release}
 use Rattle.rnv_pick.specs.declared.dep.Dep.{Dep}

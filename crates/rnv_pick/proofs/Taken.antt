@@ -5,7 +5,7 @@ use Rattle.std.specs.Option.{option_to_list}
 use Rattle.std.proofs.Math.Seq.{take-suc}
 use Rattle.std.proofs.lemmas.List.{map-append}
 use Rattle.std.proofs.lemmas.List.Elements.{filter_map-append}
-use Rattle.rnv_npm.specs.Version.{Version}
+use Rattle.rnv_version.specs.SemVer.{Version}
 use Rattle.rnv_release.specs.declared.release.Release.{Release}
 use Rattle.rnv_pick.specs.declared.bucket.Bucket.{Bucket}
 use Rattle.rnv_pick.specs.Candidates.{Candidate, candidate_of, candidates}

@@ -2,8 +2,8 @@
 use Rattle.std.specs.Prelude.{ℕ, List, length, Bool, ◌&&◌, ◌||◌, ◌==◌, not, if◌then◌else◌, Option, Some, None, option_and_then}
 use Rattle.std.specs.List.{filter_map}
 use Rattle.std.specs.Ordering.{is_lt}
-use Rattle.rnv_npm.specs.Version.{Version, npm_version}
-use Rattle.rnv_npm.specs.Order.{version_cmp}
+use Rattle.rnv_version.specs.SemVer.{Version, version_cmp}
+use Rattle.rnv_npm.specs.Version.{npm_version}
 use Rattle.rnv_release.specs.declared.release.Release.{Release}
 
 -- a release's text, and the version that it is

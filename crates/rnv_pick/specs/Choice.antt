@@ -4,8 +4,7 @@ use Rattle.std.specs.Ordering.{nat_cmp, on, then_cmp}
 use Rattle.std.specs.Cmp.{IsTotalOrder, on_total, then_total}
 use Rattle.std.specs.Cmp.Lexicographic.{slice_cmp, nat_list_cmp_total}
 use Rattle.std.specs.declared.cmp.Ordering.{Ordering}
-use Rattle.rnv_npm.specs.Version.{Version}
-use Rattle.rnv_npm.specs.Order.{version_cmp, version_total}
+use Rattle.rnv_version.specs.SemVer.{Version, version_cmp, version_total}
 use Rattle.rnv_pick.specs.declared.bucket.Bucket.{Bucket}
 use Rattle.rnv_pick.specs.declared.bucket.Bucket.TheVariants.{Rest, Major}
 use Rattle.rnv_pick.specs.Candidates.{Candidate}

@@ -1,7 +1,8 @@
 -- The updates of a dependency.
 use Rattle.std.specs.Prelude.{◌≡◌, List, [], ◌++◌, map, Option, Some, None}
 use Rattle.std.specs.Option.{option_to_list}
-use Rattle.rnv_npm.specs.Order.{kind_between}
+use Rattle.rnv_version.specs.SemVer.{first_numbers}
+use Rattle.rnv_version.specs.Kind.{kind_between}
 use Rattle.rnv_npm.specs.Exact.{Exact, exact_of, new_text}
 use Rattle.rnv_release.specs.declared.release.Release.{Release}
 use Rattle.rnv_pick.specs.declared.dep.Dep.{Dep}
@@ -12,7 +13,7 @@ use Rattle.rnv_pick.specs.Choice.{IsChosen}
 
 -- the update of a dependency of this exact value to a candidate
 abbrev pub update_of : Dep → Exact → Candidate → Update
-update_of dep value c = record { dep = dep; new_version = c.text; new_value = new_text value c.version; kind = kind_between value.version c.version }
+update_of dep value c = record { dep = dep; new_version = c.text; new_value = new_text value c.version; kind = kind_between (first_numbers value.version) (first_numbers c.version) }
 
 -- the choice among the candidates with the first number of the value's version, and that among the
 -- others, which are greater

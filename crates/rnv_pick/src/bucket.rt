@@ -2,6 +2,7 @@ ghost use Rattle.std.specs.Prelude.{◌≡◌};
 ghost use Rattle.rnv_pick.specs.Choice.{is_in};
 
 use rnv_npm::{NpmVersion, NpmVersioning};
+use rnv_version::Versioning;
 
 /// Candidates from which one is chosen.
 #[derive(Clone, Copy, Debug, PartialEq, Eq)]

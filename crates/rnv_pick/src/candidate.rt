@@ -2,8 +2,9 @@ ghost use Rattle.std.specs.Prelude.{◌≡◌, Option, IfOk};
 ghost use Rattle.rnv_pick.specs.Candidates.{is_stable, is_wanted, candidate_of};
 
 use rnv_base::{Share, Text};
-use rnv_npm::{NpmVersion, NpmVersioning, VersionError};
+use rnv_npm::{NpmVersion, NpmVersioning};
 use rnv_release::Release;
+use rnv_version::{VersionError, Versioning};
 use std::alloc::{AllocError, Global};
 use std::cmp::Ordering;
 use std::convert::AsStr;

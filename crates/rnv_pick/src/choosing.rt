@@ -8,6 +8,7 @@ use crate::candidate::as_candidate;
 use crate::{Bucket, Candidate};
 use rnv_npm::{NpmVersion, NpmVersioning};
 use rnv_release::Release;
+use rnv_version::Versioning;
 use std::alloc::{AllocError, Global};
 use std::cmp::Ordering;
 

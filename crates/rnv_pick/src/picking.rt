@@ -8,6 +8,7 @@ use crate::{ByBucket, Candidate, Dep, Update, choices};
 use rnv_base::{List, Share};
 use rnv_npm::{ExactValue, NpmVersioning};
 use rnv_release::Release;
+use rnv_version::Versioning;
 use std::alloc::{AllocError, Global};
 use std::convert::{AsSlice, AsStr};
 
@@ -86,7 +87,7 @@ fn update(
     Ok(Update {
         dep: dep.share(alloc)?,
         new_version: candidate.text.share(alloc)?,
-        new_value: NpmVersioning.new_value(alloc, value, &candidate.version)?,
+        new_value: NpmVersioning.with_version(alloc, value, &candidate.version)?,
         kind: NpmVersioning.kind(&value.version, &candidate.version),
     })
 }

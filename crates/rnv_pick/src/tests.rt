@@ -2,6 +2,7 @@ use crate::{Candidate, Dep, Update, choices, one_list, updates};
 use rnv_base::{List, ManagerKind, SourceKind, Text};
 use rnv_npm::NpmVersioning;
 use rnv_release::Release;
+use rnv_version::Versioning;
 use std::alloc::{AllocError, Global};
 use std::convert::{AsSlice, AsStr};
 use std::test::Fail;

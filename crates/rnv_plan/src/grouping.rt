@@ -8,8 +8,9 @@ ghost use Rattle.rnv_plan.specs.Groups.{group_of, greatest_kind, item_of};
 
 use crate::{Item, branch_name};
 use rnv_base::{List, Text, UpdateKind};
-use rnv_npm::{NpmVersioning, VersionError};
+use rnv_npm::NpmVersioning;
 use rnv_pick::Update;
+use rnv_version::{VersionError, Versioning};
 use std::alloc::{AllocError, Global};
 use std::cmp::Ordering;
 use std::collections::BTreeMap;

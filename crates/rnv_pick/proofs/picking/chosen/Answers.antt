@@ -1,6 +1,6 @@
 use Rattle.std.proofs.Common.{◌≡◌, Option, subst, ap}
 use Rattle.std.proofs.lemmas.Result.{IfOk-weaker}
-use Rattle.rnv_npm.specs.Version.{Version}
+use Rattle.rnv_version.specs.SemVer.{Version}
 use Rattle.rnv_npm.specs.Exact.{Exact}
 use Rattle.rnv_pick.specs.declared.bucket.Bucket.{Bucket}
 use Rattle.rnv_pick.specs.declared.bucket.Bucket.TheVariants.{Rest, Major}
