@@ -1,4 +1,4 @@
-ghost use Rattle.std.specs.Prelude.{◌≡◌, ◌<◌, ◌≤◌, ◌++◌, [], length, take, IfOk, OnErr, IsErr};
+ghost use Rattle.std.specs.Prelude.{◌≡◌, ◌⊎◌, ◌+◌, ◌<◌, ◌≤◌, ◌++◌, [], length, take, vec_len, vec_capacity, IfOk, OnErr, IsErr};
 ghost use Rattle.rnv_base.specs.Causes.{FailsBy};
 ghost use Rattle.rnv_base.specs.Turns.{IsListed, first_turn, next_turn};
 
@@ -52,6 +52,7 @@ impl Sink for MemSink {
         ensures cause { FailsBy self.old.faults self.new.faults result }
         ensures whole { IfOk result (λ n. n ≡ length bytes.now) }
         ensures listed { IsListed self.old.failing → IsErr result }
+        ensures failed { OnErr result (IsListed self.old.failing ⊎ (vec_capacity self.old.bytes < vec_len self.old.bytes + length bytes.now)) }
         ensures turn { self.new.failing ≡ next_turn self.old.failing }
     {
         if self.failing.strikes() || self.bytes.extend_from_slice(bytes).is_err() {
