@@ -1,6 +1,6 @@
-ghost use Rattle.std.specs.Prelude.{◌≡◌, ◌↔◌, IsTrue, IsOk, IfOk, OnOk, IsErrOf, All, map};
-ghost use Rattle.rnv_pattern.specs.Patterns.{AreAllExpressions, ArePatterns, FirstIs, HasPositive, IsBadGlob, IsGlobPattern, MatchesList, RefusedIn, SomeHolds, TookMore, rule_text};
-ghost use Rattle.rnv_pattern.specs.declared.error.PatternError.TheVariants.{BadGlob, BadExpression};
+ghost use Rattle.std.specs.Prelude.{◌≡◌, [], ◌↔◌, IsTrue, IsOk, IfOk, OnOk, IsErrOf, All, map, ◌==◌, length};
+ghost use Rattle.rnv_pattern.specs.Patterns.{AreAllExpressions, ArePatterns, FirstIs, HasPositive, IsBadGlob, IsGlobPattern, MatchesList, RefusedIn, SomeHolds, TookFront, TookMore, rule_text};
+ghost use Rattle.rnv_pattern.specs.declared.error.PatternError.TheVariants.{BadGlob, BadExpression, Memory};
 
 use crate::pattern::Pattern;
 use crate::{Builder, PatternError};
@@ -36,8 +36,9 @@ fn read_each<E: Builder, T: AsStr>(
 ) -> Result<List<Pattern>, PatternError>
     ensures read { IfOk result (λ list. ArePatterns (map T.text texts.now) list) }
     ensures took { OnOk result (TookMore (AreAllExpressions (map T.text texts.now)) (E.took engines.old) (E.took engines.new)) }
-    ensures bad_glob { IsErrOf result BadGlob → FirstIs (λ text. IsBadGlob (rule_text text)) (map T.text texts.now) }
-    ensures bad_expression { IsErrOf result BadExpression → FirstIs (λ text. RefusedIn (rule_text text) (E.refused engines.old) (E.refused engines.new)) (map T.text texts.now) }
+    ensures bad_glob { IsErrOf result BadGlob → FirstIs (λ text. IsBadGlob (rule_text text)) (map T.text texts.now) (E.took engines.old) (E.took engines.new) }
+    ensures bad_expression { IsErrOf result BadExpression → FirstIs (λ text. RefusedIn (rule_text text) (E.refused engines.old) (E.refused engines.new)) (map T.text texts.now) (E.took engines.old) (E.took engines.new) }
+    ensures memory { IsErrOf result Memory → TookFront (map T.text texts.now) (E.took engines.old) (E.took engines.new) }
     ensures unrefused { ¬ IsErrOf result BadExpression → E.refused engines.new ≡ E.refused engines.old }
     ensures others { E.others engines.new ≡ E.others engines.old }
 {
@@ -97,6 +98,15 @@ fn list_matches(alloc: Global, patterns: &[Pattern], text: &str) -> Result<bool,
 }
 
 impl PatternList {
+    /// A list without patterns. Takes no memory.
+    pub fn empty(alloc: Global) -> PatternList
+        ensures { result ≡ [] }
+    {
+        PatternList {
+            patterns: List::empty(alloc),
+        }
+    }
+
     /// Reads each text as a pattern. It is refused for the first text that is none: `BadGlob` and
     /// `BadExpression` as for one pattern.
     pub fn read<E: Builder, T: AsStr>(
@@ -106,8 +116,9 @@ impl PatternList {
     ) -> Result<PatternList, PatternError>
         ensures read { IfOk result (λ list. ArePatterns (map T.text texts.now) list) }
         ensures took { OnOk result (TookMore (AreAllExpressions (map T.text texts.now)) (E.took engines.old) (E.took engines.new)) }
-        ensures bad_glob { IsErrOf result BadGlob → FirstIs (λ text. IsBadGlob (rule_text text)) (map T.text texts.now) }
-        ensures bad_expression { IsErrOf result BadExpression → FirstIs (λ text. RefusedIn (rule_text text) (E.refused engines.old) (E.refused engines.new)) (map T.text texts.now) }
+        ensures bad_glob { IsErrOf result BadGlob → FirstIs (λ text. IsBadGlob (rule_text text)) (map T.text texts.now) (E.took engines.old) (E.took engines.new) }
+        ensures bad_expression { IsErrOf result BadExpression → FirstIs (λ text. RefusedIn (rule_text text) (E.refused engines.old) (E.refused engines.new)) (map T.text texts.now) (E.took engines.old) (E.took engines.new) }
+        ensures memory { IsErrOf result Memory → TookFront (map T.text texts.now) (E.took engines.old) (E.took engines.new) }
         ensures unrefused { ¬ IsErrOf result BadExpression → E.refused engines.new ≡ E.refused engines.old }
         ensures others { E.others engines.new ≡ E.others engines.old }
     {
@@ -115,6 +126,13 @@ impl PatternList {
             Ok(patterns) => Ok(PatternList { patterns }),
             Err(error) => Err(error),
         }
+    }
+
+    /// Whether there is no pattern.
+    pub fn is_empty(&self) -> bool
+        ensures { result ≡ (length self.now == 0) }
+    {
+        self.patterns.len() == 0
     }
 
     /// Whether some pattern that is not negated matches the text, or there is none, and no negated one
