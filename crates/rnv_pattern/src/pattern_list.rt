@@ -112,7 +112,8 @@ impl PatternList {
     }
 
     /// Reads each text as a pattern. It is refused for the first text that is none: `BadGlob` and
-    /// `BadExpression` as for one pattern.
+    /// `BadExpression` as for one pattern, and the engines took the expressions of the texts before it, no
+    /// more; at `Memory` they took those of the first texts.
     pub fn read<E: Builder, T: AsStr>(
         alloc: Global,
         engines: &mut E,
