@@ -4,3 +4,4 @@ pub mod Civil
 pub mod Files
 pub mod Moment
 pub mod Names
+pub mod Values
