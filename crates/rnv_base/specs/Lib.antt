@@ -6,3 +6,4 @@ pub mod Kinds
 pub mod Moment
 pub mod Names
 pub mod Turns
+pub mod Values

@@ -1,6 +1,6 @@
 ghost use Rattle.std.specs.Prelude.{◌≡◌};
 ghost use Rattle.rnv_manager.specs.Finds.{views, GivesFinds};
-ghost use Rattle.rnv_package_json.specs.Fits.{fits};
+ghost use Rattle.rnv_base.specs.Values.{is_quotable};
 ghost use Rattle.rnv_package_json.specs.Grammar.{IsRead};
 ghost use Rattle.rnv_package_json.specs.Read.{file as read_file};
 
@@ -48,7 +48,7 @@ fn read<'a>(alloc: Global, file: &'a str) -> Result<List<Found<'a>>, ExtractErro
 impl Manager for NpmManager {
     ghost reads = { λ m file ms. IsRead file ms };
 
-    ghost is_fit = { λ m value. fits value };
+    ghost is_fit = { λ m value. is_quotable value };
 
     fn extract<'a>(
         &'a self,
