@@ -41,6 +41,7 @@ impl<R: Files + Eprint + Drop> HereFolder<R> {
     fn failed(&mut self, kind: ErrorKind) -> FolderError
         ensures later { self.old.faults ≤ self.new.faults }
         ensures counted { result ≡ fault → Rose self.old.faults self.new.faults }
+        ensures uncounted { ¬ (result ≡ fault) → self.new.faults ≡ self.old.faults }
     {
         if kind == ErrorKind::OutOfMemory {
             return FolderError::Memory;
