@@ -3,8 +3,8 @@ use Rattle.std.specs.Prelude.{◌≡◌, ◌≤◌, ℕ, Bool, true, false, List
 use Rattle.std.specs.Cmp.{IsTotalOrder}
 use Rattle.std.specs.Ordering.{is_gt}
 use Rattle.std.specs.declared.cmp.Ordering.{Ordering}
+use Rattle.rnv_base.specs.Kinds.{rank}
 use Rattle.rnv_base.specs.declared.kinds.UpdateKind.{UpdateKind}
-use Rattle.rnv_base.specs.declared.kinds.UpdateKind.TheVariants as kind
 use Rattle.rnv_base.specs.declared.kinds.Strategy.{Strategy}
 use Rattle.rnv_version.specs.declared.numbers.Numbers.{Numbers}
 
@@ -37,13 +37,6 @@ pub record Numbering (V R : Type 0) : Type 0 where
   pub bump_start : List ℕ → Option V
   -- by a strategy, what is to stand for a value when the version of this text is wanted, if anything
   pub new_text : Strategy → List ℕ → List ℕ → Option (List ℕ)
-
--- how far a kind goes
-abbrev pub rank : UpdateKind → ℕ
-rank kind.Pin = 0
-rank kind.Patch = 1
-rank kind.Minor = 2
-rank kind.Major = 3
 
 -- a later version is of no lesser kind
 abbrev pub KindsRise : {V R : Type 0} → Numbering V R → Type 0
