@@ -1,5 +1,5 @@
 ghost use Rattle.std.specs.Prelude.{◌≡◌, ◌≤◌, ◌↔◌, IfOk, IfSome, IsErrOf, IsSome, IsTrue, take};
-ghost use Rattle.rnv_base.specs.Causes.{FaultsBy, Rose};
+ghost use Rattle.rnv_base.specs.Causes.{FaultsBy, PassesNone, Rose};
 ghost use Rattle.rnv_base.specs.Files.{read_of, bytes_inside, listed_of, paths_of, IsRising};
 ghost use Rattle.rnv_base.specs.Turns.{IsListed, first_turn, next_turn};
 ghost use Rattle.rnv_base.specs.declared.folder.FolderError.TheVariants.{Failed};
@@ -65,6 +65,7 @@ impl MemFolder {
         ensures listed { IsTrue result ↔ IsListed self.old.failing }
         ensures later { self.old.faults ≤ self.new.faults }
         ensures rose { IsTrue result → Rose self.old.faults self.new.faults }
+        ensures passed { ¬ IsTrue result → self.new.faults ≡ self.old.faults }
         ensures same { self.new.files ≡ self.old.files }
         ensures turn { self.new.failing ≡ next_turn self.old.failing }
     {
@@ -87,6 +88,7 @@ impl Folder for MemFolder {
         ensures bytes { IfOk result (λ found. bytes_inside found ≡ read_of path.now self.old.files) }
         ensures same { self.new.files ≡ self.old.files }
         ensures cause { FaultsBy self.old.faults self.new.faults result Failed }
+        ensures passed { PassesNone self.old.faults self.new.faults result Failed }
         ensures listed { IsErrOf result Failed ↔ IsListed self.old.failing }
         ensures turn { self.new.failing ≡ next_turn self.old.failing }
     {
@@ -105,6 +107,7 @@ impl Folder for MemFolder {
         ensures rising { IfOk result IsRising }
         ensures same { self.new.files ≡ self.old.files }
         ensures cause { FaultsBy self.old.faults self.new.faults result Failed }
+        ensures passed { PassesNone self.old.faults self.new.faults result Failed }
         ensures listed { IsErrOf result Failed ↔ IsListed self.old.failing }
         ensures turn { self.new.failing ≡ next_turn self.old.failing }
     {
