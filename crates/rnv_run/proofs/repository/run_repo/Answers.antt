@@ -13,9 +13,31 @@ use Rattle.rnv_run.proofs.repository.run_repo.Goals as goal
 
 pub run_items-requires : goal.run_items-requires
 run_items-requires g c = λ κs out.
-    let w = c.in-Ok.field-0 in
-    (out, (c.requires.holds, (c.requires.opened, (c.requires.small, (c.in-Ok.ensures.there, (c.in-Ok.ensures.told, (c.in-Ok.ensures.fit, (plain_given w.terms.moment w.items,
-    (c.in-Ok.ensures.few, subst IsMoment (sym c.in-Ok.ensures.moment) c.requires.moment)))))))))
+    let w = c.in-Ok.field-0 in (
+      out,
+      (
+        c.requires.holds,
+        (
+          c.requires.opened,
+          (
+            c.requires.small,
+            (
+              c.in-Ok.ensures.there,
+              (
+                c.in-Ok.ensures.told,
+                (
+                  c.in-Ok.ensures.fit,
+                  (
+                    plain_given w.terms.moment w.items,
+                    (c.in-Ok.ensures.few, subst IsMoment (sym c.in-Ok.ensures.moment) c.requires.moment),
+                  ),
+                ),
+              ),
+            ),
+          ),
+        ),
+      ),
+    )
 
 pub returns-in-Ok-clause-any_moment : goal.returns-in-Ok-clause-any_moment
 returns-in-Ok-clause-any_moment g c =
