@@ -165,6 +165,10 @@ pub record IsFreeRun (files : List NamedFile) (repo : List ℕ) (moment : ℕ) (
 abbrev pub IsRunCauseOr : List ℕ → List ℕ → RunError → ℕ → Type 0
 IsRunCauseOr repo file error code = (code ≡ status_of error) ⊎ ((code ≡ 1) ⊎ ((code ≡ 7) ⊎ ((code ≡ 5) × HasRepo repo 268435456 file)))
 
+-- what may come where the bytes on the disk are no store: 8; or before it want of memory, or a fault of the disk
+abbrev pub IsDamagedOr : ℕ → Type 0
+IsDamagedOr code = (code ≡ 8) ⊎ ((code ≡ 1) ⊎ (code ≡ 7))
+
 -- the text or refusal that the words give
 
 pub record IsForPlan (s : Sight) (words : List (List ℕ)) (text : Result (List ℕ) Refusal) : Type 0 where

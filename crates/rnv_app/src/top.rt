@@ -2,11 +2,12 @@ ghost use Rattle.std.specs.Prelude.{◌≡◌, ◌↔◌, ◌⊎◌, ◌≤◌, 
 ghost use Rattle.rnv_base.specs.Causes.{Rose, FaultsBy};
 ghost use Rattle.rnv_base.specs.Files.{NamedFile};
 ghost use Rattle.rnv_app.specs.End.{line_of, status_of, IsCause, IsCauseOr, IsLine, IsStatus, IsTold};
-ghost use Rattle.rnv_app.specs.Top.{refusing, HasNoPlan, HasPlan, IsAnswered, IsForImport, IsForShow, IsFree, IsFreeRun, IsImportEnd, IsNamed, IsOfPlan, IsPrinted, IsPrintedInPart, IsRefusedWith, IsForRun, IsRunCauseOr, IsRunEnd, IsShowEnd, Tells, running};
+ghost use Rattle.rnv_app.specs.Top.{refusing, HasNoPlan, HasPlan, IsAnswered, IsForImport, IsForShow, IsFree, IsFreeRun, IsImportEnd, IsNamed, IsOfPlan, IsPrinted, IsPrintedInPart, IsRefusedWith, IsDamagedOr, IsForRun, IsRunCauseOr, IsRunEnd, IsShowEnd, Tells, running};
 ghost use Rattle.rnv_app.specs.Words.{IsImport, IsPlan, IsRun, IsShow, IsUsage};
 ghost use Rattle.rnv_app.specs.declared.end.Refusal.{Refusal as Cause};
 ghost use Rattle.rnv_app.specs.declared.end.Refusal.TheVariants.{DiskFault as disk_fault, FolderFault as folder_fault, Memory as no_memory};
 ghost use Rattle.rnv_plan.specs.declared.error.RunError.{RunError as Error};
+ghost use Rattle.rnv_commands.specs.OnDisk.{IsDamaged};
 ghost use Rattle.rnv_plan.specs.Plan.{IsPlanned, IsPlanRefusal};
 ghost use Rattle.rnv_run.specs.OnDisk.{IsRefusedIn};
 
@@ -101,6 +102,8 @@ pub fn renovate<K: Sink, O: Folder, D: Disk>(
     // Each cause of a refusal of a run, but for want of memory or a fault before it; one of the folder only where the store
     // has the repository.
     ensures run_exactly { (repo : Items ℕ) (now : ℕ) → IsRun words.now repo now → O.tells → D.tells → (error : Error) → IsRefusedIn (O.files outside.folder) repo now 268435456 (D.seen outside.disk).zero error → IsRunCauseOr repo (D.seen outside.disk).zero error result.status.code }
+
+    ensures run_damaged { (repo : Items ℕ) (now : ℕ) → IsRun words.now repo now → O.tells → D.tells → (offset : ℕ) → IsDamaged 268435456 (D.seen outside.disk).zero offset → IsDamagedOr result.status.code }
 
     ensures same { O.tells → (O.files result.outside.folder ≡ O.files outside.folder) }
     ensures folder_later { O.faults outside.folder ≤ O.faults result.outside.folder }

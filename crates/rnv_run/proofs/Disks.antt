@@ -28,7 +28,7 @@ use Rattle.rnv_store.specs.Writes.{length_of}
 use Rattle.rnv_store.specs.Start.{IsStoreRefusal}
 use Rattle.rnv_store.proofs.Uses.{leaves_weaker}
 use Rattle.rnv_run.specs.declared.on_disk.RunRefusal.{RunRefusal}
-use Rattle.rnv_run.specs.declared.on_disk.RunRefusal.TheVariants.{Ended}
+use Rattle.rnv_run.specs.declared.on_disk.RunRefusal.TheVariants.{Ended, NotAJournal}
 use Rattle.rnv_run.specs.Begun.{BeginsOrStays}
 use Rattle.rnv_run.specs.Front.{IsFront, SpellsFront}
 use Rattle.rnv_run.specs.OnDisk.{ended, IsBegun, HasRepo, IsFinished, IsNotRun, IsRefusedIn, IsStartRefusal, LeavesRun, ReadsFront, Runs}
@@ -223,10 +223,10 @@ start_refused files name moment limit file start_fault refusal is r = subst (IsN
 start_refused files name moment limit file (start_damaged offset) refusal is r = subst (IsNotRun files name moment limit file) (sym is) r
 start_refused files name moment limit file start_memory refusal is r = subst (IsNotRun files name moment limit file) (sym is) tt
 
-start_folder : (error : StartError) (refusal : RunRefusal) → IsStartRefusal error refusal → ¬ (Err refusal ≡ Err (Ended FolderFault))
-start_folder start_fault refusal is same = absurd cc
-start_folder (start_damaged offset) refusal is same = absurd cc
-start_folder start_memory refusal is same = absurd cc
+start_folder : (error : StartError) (refusal : RunRefusal) → IsStartRefusal error refusal → ¬ (refusal ≡ Ended FolderFault)
+start_folder start_fault refusal is same = let both : Ended DiskFault ≡ Ended FolderFault = sym is ∙ same in absurd (cc both)
+start_folder (start_damaged offset) refusal is same = let both : NotAJournal offset ≡ Ended FolderFault = sym is ∙ same in absurd (cc both)
+start_folder start_memory refusal is same = let both : Ended Memory ≡ Ended FolderFault = sym is ∙ same in absurd (cc both)
 
 pub runs_refused : (folder_tells : Type 0) (files : List NamedFile) (disk_tells : Type 0) (file : List ℕ) (entry exit : Past) (name : List ℕ) (moment : ℕ) (error : StartError) (refusal : RunRefusal) → KeepsReadings 268435456 entry exit
     → IsStartRefusal error refusal → (disk_tells → IsStoreRefusal 268435456 file error) → Runs folder_tells files disk_tells file entry exit name moment (Err refusal)
@@ -237,7 +237,7 @@ runs_refused folder_tells files disk_tells file entry exit name moment error ref
   unwritten = λ ne. keeps;
   done = λ d. tt;
   refused = λ t d. start_refused files name moment 268435456 file error refusal is (r d);
-  folder = λ d fault. absurd (start_folder error refusal is fault);
+  folder = λ d fault. absurd (start_folder error refusal is (let same : refusal ≡ Ended FolderFault = cc fault in same));
 }
 
 -- nothing was done, for want of memory

@@ -33,11 +33,11 @@ module _ (base : List MarkedFile) (picked : List PickedFile) where
   item_found name [] [] i each found = absurd (cc found)
   item_found name [] (j ∷ is) i each found = absurd each
   item_found name (g ∷ gs) [] i each found = absurd each
-  item_found name (g ∷ gs) (j ∷ is) i each found = by (bytes_eq j.branch name) found
+  item_found name (g ∷ gs) (j ∷ is) i each found = by (bytes_eq j.branch name) (λ e. item_found name gs is i each.1 e) found
     where
-      by : (t : Bool) → cond t (Some j) (item_at name is) ≡ Some i → (h : Group) × IsItemOf base picked h i
-      by true e = let same : j ≡ i = cc e in (g, subst (IsItemOf base picked g) same each.0)
-      by false e = item_found name gs is i each.1 e
+      by : (t : Bool) → (item_at name is ≡ Some i → (h : Group) × IsItemOf base picked h i) → cond t (Some j) (item_at name is) ≡ Some i → (h : Group) × IsItemOf base picked h i
+      by true rest e = let same : j ≡ i = cc e in (g, subst (IsItemOf base picked g) same each.0)
+      by false rest e = rest e
 
   edits_give : (branch : List ℕ) (edits : ItemEdits) → AreEdits base picked branch edits → AllZip (IsEditedFile base branch) (filter (is_edited branch) picked) (edited_files edits) ⊎ (edited_files edits ≡ [])
   edits_give branch (Plain files) are = inl are
