@@ -32,6 +32,7 @@ impl<R: Files + Eprint + Drop> HereFolder<R> {
     fn twice(&mut self, prefix: &str) -> FolderError
         ensures later { self.old.faults ≤ self.new.faults }
         ensures counted { result ≡ fault → Rose self.old.faults self.new.faults }
+        ensures uncounted { ¬ (result ≡ fault) → self.new.faults ≡ self.old.faults }
     {
         let _ = eprintln!(self.rt; "renovate: {prefix}: two files of one name are listed");
         self.failed(ErrorKind::InvalidData)
