@@ -1,3 +1,4 @@
+pub mod Bounds
 pub mod Live
 pub mod Merges
 pub mod Named

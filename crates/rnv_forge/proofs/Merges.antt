@@ -28,7 +28,7 @@ without_none key name (x ∷ xs) a =
 
 -- a file below a change's path stays in front
 
-at_behind : (path : List ℕ) (x : MarkedFile) (files : List MarkedFile) → cmp x.path path ≡ Less → at path_of path (x ∷ files) ≡ at path_of path files
+pub at_behind : (path : List ℕ) (x : MarkedFile) (files : List MarkedFile) → cmp x.path path ≡ Less → at path_of path (x ∷ files) ≡ at path_of path files
 at_behind path x files below = ap (λ t. cond t (Some x) (at path_of path files)) (less_other x.path path below)
 
 bytes_behind : (revision : ℕ) (path : List ℕ) (bytes : Option (List ℕ)) (x : MarkedFile) (files : List MarkedFile) → cmp x.path path ≡ Less

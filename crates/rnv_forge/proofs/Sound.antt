@@ -30,7 +30,7 @@ use Rattle.rnv_forge.proofs.Texts.{cmp, bytes_true, bytes_refl, same_texts, grea
 
 -- lists in the order of a text
 
-all_put : {X : Type 0} (P : X → Type 0) (key : X → List ℕ) (x : X) (xs : List X) → P x → AllByRecursion P xs → AllByRecursion P (put key x xs)
+pub all_put : {X : Type 0} (P : X → Type 0) (key : X → List ℕ) (x : X) (xs : List X) → P x → AllByRecursion P xs → AllByRecursion P (put key x xs)
 all_put P key x [] h a = (h, tt)
 all_put P key x (y ∷ ys) h a =
     elim (cmp (key x) (key y)) as (λ o. AllByRecursion P (put_beside o x y ys (put key x ys))) [
@@ -182,7 +182,7 @@ apart_at_number n f right left (q ∷ qs) a =
       apart_at_number n f right left qs a.1,
     )
 
-all_append : {X : Type 0} (P : X → Type 0) (xs : List X) (x : X) → AllByRecursion P xs → P x → AllByRecursion P (xs ++ x ∷ [])
+pub all_append : {X : Type 0} (P : X → Type 0) (xs : List X) (x : X) → AllByRecursion P xs → P x → AllByRecursion P (xs ++ x ∷ [])
 all_append P [] x a h = (h, tt)
 all_append P (y ∷ ys) x a h = (a.0, all_append P ys x a.1 h)
 
@@ -233,7 +233,7 @@ free_of branch repo otherwise e =
       | false ↦ λ is h. absurd cc
     ] refl e
 
-next_of : (number : ℕ) (rs : List Request) → cond (not (eqb number (next_number rs))) (Some (NumberTaken number)) None ≡ None → number ≡ next_number rs
+pub next_of : (number : ℕ) (rs : List Request) → cond (not (eqb number (next_number rs))) (Some (NumberTaken number)) None ≡ None → number ≡ next_number rs
 next_of number rs e =
     elim (eqb number (next_number rs)) as (λ b. eqb number (next_number rs) ≡ b → cond {A = Option Refusal} (not b) (Some (NumberTaken number)) None ≡ None → number ≡ next_number rs) [
       | true ↦ λ is h. eqb-true _ _ is

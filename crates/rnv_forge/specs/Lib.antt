@@ -1,5 +1,6 @@
 pub mod Applying
 pub mod Base
+pub mod Bounded
 pub mod Files
 pub mod Live
 pub mod Merging

@@ -14,6 +14,7 @@ ghost use Rattle.rnv_forge.specs.WellFormed.{HasOrder, IsOrderly};
 use crate::base::{is_over, merged};
 use crate::change::{Autoclosing, Texts, change_request, drop_branch, put_branch};
 use crate::lookup::{is_live_number, is_next, live_for, refused_branch};
+use crate::repo::shared_page;
 use crate::{Branch, FileChange, Refusal, Repo, Request, RequestState, Write};
 use rnv_base::{List, Share, Text};
 use std::alloc::{AllocError, AllocFailed, Global};
@@ -161,15 +162,6 @@ fn autoclose(alloc: Global, repo: Repo, number: u32) -> Result<Repo, ApplyError>
     }
     let requests = change_request(alloc, repo.requests, number, &Autoclosing)?;
     Ok(Repo { requests, ..repo })
-}
-
-fn shared_page(alloc: Global, page: &Option<Text>) -> Result<Option<Text>, AllocError>
-    ensures { IfOk result (λ copy. copy ≡ page.now) }
-{
-    match page {
-        Some(text) => Ok(Some(text.share(alloc)?)),
-        None => Ok(None),
-    }
 }
 
 fn finish(alloc: Global, repo: Repo, page: &Option<Text>) -> Result<Repo, ApplyError>

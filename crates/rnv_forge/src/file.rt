@@ -1,4 +1,5 @@
 ghost use Rattle.std.specs.Prelude.{◌≡◌, IfOk};
+ghost use Rattle.rnv_base.specs.Files.{bytes_inside};
 
 use rnv_base::{Bytes, Share, Text};
 use std::alloc::{AllocError, Global};
@@ -60,4 +61,32 @@ impl Model for FileChange {
     ghost Value = { PathChange };
 
     ghost view = { λ c. record { path = c.path; bytes = bytes_inside c.bytes } };
+}
+
+impl Share for FileAt {
+    fn share(&self, alloc: Global) -> Result<FileAt, AllocError> {
+        Ok(FileAt {
+            path: self.path.share(alloc)?,
+            bytes: self.bytes.share(alloc)?,
+            changed: self.changed,
+        })
+    }
+}
+
+fn shared_bytes(alloc: Global, bytes: &Option<Bytes>) -> Result<Option<Bytes>, AllocError>
+    ensures { IfOk result (λ copy. bytes_inside copy ≡ bytes_inside bytes.now) }
+{
+    match bytes {
+        Some(bytes) => Ok(Some(bytes.share(alloc)?)),
+        None => Ok(None),
+    }
+}
+
+impl Share for FileChange {
+    fn share(&self, alloc: Global) -> Result<FileChange, AllocError> {
+        Ok(FileChange {
+            path: self.path.share(alloc)?,
+            bytes: shared_bytes(alloc, &self.bytes)?,
+        })
+    }
 }

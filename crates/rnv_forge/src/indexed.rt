@@ -47,6 +47,13 @@ impl Indexed {
         repo
     }
 
+    /// The repository, as it stands.
+    pub fn repo(&self) -> &Repo
+        ensures { result.now ≡ self.now }
+    {
+        &self.repo
+    }
+
     /// The name of the repository.
     pub fn name(&self) -> &Text
         ensures { result.now ≡ self.now.name }

@@ -1,5 +1,6 @@
 use crate::Key;
-use rnv_base::{List, Text};
+use rnv_base::{List, Share, Text};
+use std::alloc::{AllocError, Global};
 
 /// Whether a request waits, or how it ended.
 #[derive(Clone, Copy, Debug, PartialEq, Eq)]
@@ -25,4 +26,19 @@ pub struct Request {
     pub labels: List<Text>,
     pub made_at: u64,
     pub state: RequestState,
+}
+
+impl Share for Request {
+    fn share(&self, alloc: Global) -> Result<Request, AllocError> {
+        Ok(Request {
+            number: self.number,
+            branch: self.branch.share(alloc)?,
+            updates: self.updates.share(alloc)?,
+            title: self.title.share(alloc)?,
+            body: self.body.share(alloc)?,
+            labels: self.labels.share(alloc)?,
+            made_at: self.made_at,
+            state: self.state,
+        })
+    }
 }

@@ -8,6 +8,7 @@ pub mod Founds
 pub mod Held
 pub mod Keeps
 pub mod Numbers
+pub mod Ones
 pub mod Steps
 pub mod Uses
 pub mod Writes

@@ -69,3 +69,13 @@ pub record IsTornFrom (past : Past) (at n : ℕ) (c : Image) : Type 0 where
 -- the entries, or the entries and the first prepared byte string
 abbrev pub IsOldOrAppended : Held → List (List ℕ) → Type 0
 IsOldOrAppended held list = (list ≡ held.entries) ⊎ (list ≡ held.entries ++ take 1 held.prepared)
+
+-- what a stop at that moment may leave of file `One`, whatever of file `Zero`
+pub record HasOneOf (past : Past) (c : Image) : Type 0 where
+  pub image : Image
+  pub left : LeftNow past image
+  pub same : c.one ≡ image.one
+
+-- Whatever a stop at some moment since old leaves, it leaves of file `One` what a stop at old may leave of it.
+abbrev pub KeepsOne : Past → Past → Type 0
+KeepsOne old new = LeavesOnly old new (HasOneOf old)

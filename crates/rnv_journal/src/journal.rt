@@ -5,7 +5,7 @@ ghost use Rattle.rnv_journal.specs.File.{end_of, counted};
 ghost use Rattle.rnv_journal.specs.Found.{strings};
 ghost use Rattle.rnv_journal.specs.Held.{IsTooLong, appended};
 ghost use Rattle.rnv_journal.specs.Reading.{ReadsAs};
-ghost use Rattle.rnv_journal.specs.Readings.{KeepsReadings, ReadsOnly, IsAtRest, IsOldOrAppended};
+ghost use Rattle.rnv_journal.specs.Readings.{KeepsOne, KeepsReadings, ReadsOnly, IsAtRest, IsOldOrAppended};
 ghost use Rattle.rnv_journal.specs.declared.journal.PrepareError.TheVariants.{Full};
 ghost use Rattle.rnv_journal.specs.Start.{IsRefusal, UnlessFault, WhereNoJournal};
 
@@ -78,6 +78,8 @@ impl Journal {
         requires small { limit ≤ 4294967295 }
         // From a disk that has readings a stop at any moment leaves readings that stood on entry.
         ensures any_moment { KeepsReadings limit (D.past disk.old) (D.past disk.new) }
+        // File `One` is left alone.
+        ensures other { KeepsOne (D.past disk.old) (D.past disk.new) }
         ensures at_rest { IfOk result (λ journal. IsAtRest limit (D.past disk.new) journal.entries) }
         ensures entries { D.tells → IfOk result (λ journal. ReadsAs limit (D.seen disk.old).zero journal.entries) }
         ensures fresh { IfOk result (λ journal. (journal.prepared ≡ []) × (journal.limit ≡ limit) × (journal.closed ≡ false)) }
@@ -178,6 +180,7 @@ impl Journal {
         requires prepared { self.old.prepared ≢ [] }
         requires at_rest { self.old.closed ≡ false → IsAtRest self.old.limit (D.past disk.old) self.old.entries }
         ensures any_moment { self.old.closed ≡ false → ReadsOnly self.old.limit (D.past disk.old) (D.past disk.new) (IsOldOrAppended self.old) }
+        ensures other { KeepsOne (D.past disk.old) (D.past disk.new) }
         ensures at_rest { OnOk result (IsAtRest self.old.limit (D.past disk.new) self.new.entries) }
         ensures ok { OnOk result (self.new ≡ appended self.old) }
         ensures err { OnErr result (self.new ≡ record self.old { closed = true }) }

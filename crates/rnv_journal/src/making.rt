@@ -3,7 +3,7 @@ ghost use Rattle.rnv_base.specs.Causes.{FailsBy};
 ghost use Rattle.rnv_disk.specs.declared.device.FileNo.TheVariants.{Zero};
 ghost use Rattle.rnv_disk.specs.Stops.{IsDurable};
 ghost use Rattle.rnv_journal.specs.File.{end_of, IsBegun, IsInMaking};
-ghost use Rattle.rnv_journal.specs.Readings.{KeepsReadings, IsAtRest, IsOneImage};
+ghost use Rattle.rnv_journal.specs.Readings.{KeepsOne, KeepsReadings, IsAtRest, IsOneImage};
 
 use crate::head::MADE;
 use crate::writing::write_synced;
@@ -17,6 +17,7 @@ pub(crate) fn make<D: Disk>(disk: &mut D, bytes: &[u8]) -> Result<(), Failed>
     requires making { IsInMaking bytes.now }
     ensures any_moment { (limit : ℕ) → 14 ≤ limit → KeepsReadings limit (D.past disk.old) (D.past disk.new) }
     ensures at_rest { OnOk result ((limit : ℕ) → 14 ≤ limit → IsAtRest limit (D.past disk.new) []) }
+    ensures other { KeepsOne (D.past disk.old) (D.past disk.new) }
     ensures cause { FailsBy (D.faults disk.old) (D.faults disk.new) result }
 {
     begin(disk, bytes)?;
@@ -40,6 +41,7 @@ fn begin<D: Disk>(disk: &mut D, bytes: &[u8]) -> Result<(), Failed>
     ensures any_moment { (limit : ℕ) → 14 ≤ limit → KeepsReadings limit (D.past disk.old) (D.past disk.new) }
     ensures seen { D.tells → OnOk result (IsBegun (D.seen disk.new).zero) }
     ensures begun { OnOk result ((file : List ℕ) × IsBegun file × IsDurable Zero (D.past disk.new) file) }
+    ensures other { KeepsOne (D.past disk.old) (D.past disk.new) }
     ensures cause { FailsBy (D.faults disk.old) (D.faults disk.new) result }
 {
     if starts_with_zero(bytes) {
@@ -54,6 +56,7 @@ fn fill<D: Disk>(disk: &mut D) -> Result<(), Failed>
     requires begun { (file : List ℕ) × IsBegun file × IsDurable Zero (D.past disk.old) file }
     ensures any_moment { (limit : ℕ) → 14 ≤ limit → KeepsReadings limit (D.past disk.old) (D.past disk.new) }
     ensures at_rest { OnOk result ((limit : ℕ) → 14 ≤ limit → IsAtRest limit (D.past disk.new) []) }
+    ensures other { KeepsOne (D.past disk.old) (D.past disk.new) }
     ensures cause { FailsBy (D.faults disk.old) (D.faults disk.new) result }
 {
     write_synced(disk, 1, MADE.as_slice())?;
@@ -67,6 +70,7 @@ pub(crate) fn close<D: Disk>(disk: &mut D, end: u64, gate: u8) -> Result<(), Fai
         → KeepsReadings limit (D.past disk.old) (D.past disk.new) }
     ensures at_rest { OnOk result ((limit : ℕ) (list : List (List ℕ)) → end ≡ end_of list → IsOneImage limit (D.past disk.old) list gate
         → IsAtRest limit (D.past disk.new) list) }
+    ensures other { KeepsOne (D.past disk.old) (D.past disk.new) }
     ensures cause { FailsBy (D.faults disk.old) (D.faults disk.new) result }
 {
     if gate == 0 {

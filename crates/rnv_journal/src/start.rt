@@ -5,7 +5,7 @@ ghost use Rattle.rnv_disk.specs.Stops.{LeftNow, IsDurable, LeavesOnly};
 ghost use Rattle.rnv_journal.specs.File.{end_of, counted};
 ghost use Rattle.rnv_journal.specs.Found.{strings};
 ghost use Rattle.rnv_journal.specs.Reading.{ReadsAs};
-ghost use Rattle.rnv_journal.specs.Readings.{KeepsReadings, IsAtRest};
+ghost use Rattle.rnv_journal.specs.Readings.{KeepsOne, KeepsReadings, IsAtRest};
 ghost use Rattle.rnv_journal.specs.Start.{IsRefusal, UnlessFault, WhereNoJournal};
 
 use crate::making::{close, make};
@@ -39,6 +39,7 @@ pub(crate) fn entries_at_rest<D: Disk>(
 ) -> Result<(List<Bytes>, u64), StartError>
     requires { 14 ≤ limit }
     ensures any_moment { KeepsReadings limit (D.past disk.old) (D.past disk.new) }
+    ensures other { KeepsOne (D.past disk.old) (D.past disk.new) }
     ensures at_rest { IfOk result (λ found. IsAtRest limit (D.past disk.new) (strings found.0)) }
     ensures end { IfOk result (λ found. found.1 ≡ end_of (strings found.0)) }
     ensures within { IfOk result (λ found. counted (strings found.0) ≤ limit) }
@@ -66,6 +67,7 @@ fn settled<D: Disk>(
     requires bytes { D.tells → (D.seen disk.old).zero ≡ bytes.now }
     requires durable { IsDurable Zero (D.past disk.old) bytes.now }
     ensures any_moment { KeepsReadings limit (D.past disk.old) (D.past disk.new) }
+    ensures other { KeepsOne (D.past disk.old) (D.past disk.new) }
     ensures at_rest { IfOk result (λ found. IsAtRest limit (D.past disk.new) (strings found.0)) }
     ensures end { IfOk result (λ found. found.1 ≡ end_of (strings found.0)) }
     ensures within { IfOk result (λ found. counted (strings found.0) ≤ limit) }

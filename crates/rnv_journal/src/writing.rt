@@ -4,7 +4,7 @@ ghost use Rattle.rnv_disk.specs.declared.device.FileNo.TheVariants.{Zero};
 ghost use Rattle.rnv_disk.specs.declared.device.DiskError.TheVariants.{Failed as read_failed};
 ghost use Rattle.rnv_disk.specs.Images.{put, On};
 ghost use Rattle.rnv_disk.specs.Stops.{LeftNow, IsDurable, LeavesOnly};
-ghost use Rattle.rnv_journal.specs.Readings.{IsTornFrom};
+ghost use Rattle.rnv_journal.specs.Readings.{IsTornFrom, KeepsOne};
 
 use rnv_base::{Bytes, Failed};
 use rnv_disk::{Disk, DiskError, FileNo};
@@ -17,6 +17,7 @@ pub(crate) fn write_synced<D: Disk>(disk: &mut D, at: u64, bytes: &[u8]) -> Resu
     ensures durable { OnOk result (IsDurable Zero (D.past disk.new) (put at bytes.now (D.seen disk.old).zero)) }
     ensures kept { OnOk result ((file : List ℕ) → IsDurable Zero (D.past disk.old) file → IsDurable Zero (D.past disk.new) (put at bytes.now file)) }
     ensures stops { LeavesOnly (D.past disk.old) (D.past disk.new) (IsTornFrom (D.past disk.old) at (length bytes.now)) }
+    ensures other { KeepsOne (D.past disk.old) (D.past disk.new) }
     ensures cause { FailsBy (D.faults disk.old) (D.faults disk.new) result }
 {
     disk.write_at(FileNo::Zero, at, bytes)?;
@@ -29,6 +30,7 @@ pub(crate) fn read_synced<D: Disk>(alloc: Global, disk: &mut D) -> Result<Bytes,
     ensures same { D.tells → OnOk result (D.seen disk.new ≡ D.seen disk.old) }
     ensures durable { IfOk result (λ b. IsDurable Zero (D.past disk.new) b.bytes) }
     ensures stops { LeavesOnly (D.past disk.old) (D.past disk.new) (LeftNow (D.past disk.old)) }
+    ensures other { KeepsOne (D.past disk.old) (D.past disk.new) }
     ensures cause { FaultsBy (D.faults disk.old) (D.faults disk.new) result read_failed }
 {
     match disk.sync(FileNo::Zero) {

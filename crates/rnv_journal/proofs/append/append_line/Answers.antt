@@ -1,5 +1,6 @@
 use Rattle.std.proofs.lemmas.Result.{on_ok_weaker}
 use Rattle.rnv_journal.proofs.Appends.{first_reads, both_read, both_rest, next_first, next_durable, next_second, next_writes}
+use Rattle.rnv_journal.proofs.Ones.{one_then}
 use Rattle.rnv_journal.proofs.append.append_line.Goals as goal
 
 pub returns-in_err-write_synced-clause-any_moment : goal.returns-in_err-write_synced-clause-any_moment
@@ -35,3 +36,6 @@ returns-clause-at_rest g c =
     (next_durable limit list payload c.args.end c.args.line.now next old mid new seen.zero c.in_ok-write_synced.ensures.durable)
     next.within
     (next_writes limit list payload c.args.end c.args.line.now next old mid new writes)) c.write_synced-2.ensures.kept
+
+pub returns-clause-other : goal.returns-clause-other
+returns-clause-other g c = one_then _ _ _ c.write_synced.ensures.other c.write_synced-2.ensures.other

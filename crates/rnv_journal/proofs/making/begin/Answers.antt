@@ -4,6 +4,7 @@ use Rattle.rnv_disk.specs.Images.{put}
 use Rattle.rnv_journal.specs.File.{IsBegun}
 use Rattle.rnv_journal.proofs.Changed.{begun_of, put_zero}
 use Rattle.rnv_journal.proofs.Keeps.{beginning_keeps}
+use Rattle.rnv_journal.proofs.Ones.{one_self}
 use Rattle.rnv_journal.proofs.making.begin.Goals as goal
 
 pub returns-then-starts_with_zero-clause-seen : goal.returns-then-starts_with_zero-clause-seen
@@ -31,3 +32,6 @@ pub returns-clause-begun : goal.returns-clause-begun
 returns-clause-begun g c =
     let bytes = c.args.bytes.now in
     on_ok_weaker c.write_synced.result (λ writes. (put 0 (0 ∷ []) bytes, put_zero bytes c.requires.making, writes bytes c.requires.durable)) c.write_synced.ensures.kept
+
+pub returns-then-starts_with_zero-clause-other : goal.returns-then-starts_with_zero-clause-other
+returns-then-starts_with_zero-clause-other g c = one_self _

@@ -6,6 +6,7 @@ use Rattle.rnv_disk.specs.Stops.{IsDurable, LeavesOnly}
 use Rattle.rnv_journal.specs.Readings.{IsOneImage, IsTornFrom}
 use Rattle.rnv_journal.proofs.Keeps.{closing_keeps}
 use Rattle.rnv_journal.proofs.Steps.{closed_rests, written_rests}
+use Rattle.rnv_journal.proofs.Ones.{one_self}
 use Rattle.rnv_journal.proofs.making.close.Goals as goal
 
 pub returns-then-gate-eq0-clause-at_rest : goal.returns-then-gate-eq0-clause-at_rest
@@ -25,3 +26,6 @@ returns-clause-at_rest g c =
     let new = g.D.Disk.past c.write_synced.new.disk in
     on_ok_weaker c.write_synced.result (λ writes limit list end one. written_rests limit old new list c.args.gate one
     (subst (λ (n : ℕ). (file : List ℕ) → IsDurable Zero old file → IsDurable Zero new (put n (0 ∷ []) file)) end writes)) c.write_synced.ensures.kept
+
+pub returns-then-gate-eq0-clause-other : goal.returns-then-gate-eq0-clause-other
+returns-then-gate-eq0-clause-other g c = one_self _

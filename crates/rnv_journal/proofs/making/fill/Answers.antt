@@ -8,6 +8,7 @@ use Rattle.rnv_journal.specs.Readings.{IsTornFrom}
 use Rattle.rnv_journal.proofs.Changed.{put_rest}
 use Rattle.rnv_journal.proofs.Keeps.{filling_keeps, finishing_keeps, keeps_both}
 use Rattle.rnv_journal.proofs.Steps.{made_rests}
+use Rattle.rnv_journal.proofs.Ones.{one_then}
 use Rattle.rnv_journal.proofs.making.fill.Goals as goal
 
 torn_made : (old mid : Past) (bytes : List ℕ) → bytes ≡ made → LeavesOnly old mid (IsTornFrom old 1 (length bytes)) → LeavesOnly old mid (IsTornFrom old 1 13)
@@ -39,3 +40,6 @@ returns-clause-at_rest g c =
     let begun = c.requires.begun in
     let durable = filled (g.D.Disk.past c.args.disk.now) (g.D.Disk.past c.write_synced.new.disk) c.as_slice.result.now begun.0 c.as_slice.ensures begun.1 begun.2 c.in_ok-write_synced.ensures.kept in
     on_ok_weaker c.write_synced-2.result (λ writes limit enough. made_rests limit _ enough (writes (0 ∷ made) durable)) c.write_synced-2.ensures.kept
+
+pub returns-clause-other : goal.returns-clause-other
+returns-clause-other g c = one_then _ _ _ c.write_synced.ensures.other c.write_synced-2.ensures.other

@@ -37,3 +37,9 @@ returns-in-Err-close-clause-any_moment g c =
     subst (λ (reading : Reading). IsReadFrom c.args.limit c.args.bytes.now reading) c.in-Ok-Entries.field-0-is c.in-Ok-Entries.ensures.read in
     let one = one_of c.args.limit (g.D.Disk.past c.args.disk.now) c.args.bytes.now _ c.in-Ok-Entries.gate found.rest c.requires.durable found.image in
     c.close.ensures.any_moment c.args.limit (strings c.in-Ok-Entries.entries) found.place one
+
+pub returns-in-Ok-clause-any_moment : goal.returns-in-Ok-clause-any_moment
+returns-in-Ok-clause-any_moment g c = c.make.ensures.any_moment c.args.limit c.requires.limit
+
+pub returns-in-Err-clause-any_moment : goal.returns-in-Err-clause-any_moment
+returns-in-Err-clause-any_moment g c = c.make.ensures.any_moment c.args.limit c.requires.limit
