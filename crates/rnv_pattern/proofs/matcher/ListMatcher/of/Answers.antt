@@ -1,7 +1,7 @@
 use Rattle.std.proofs.Common.{◌≡◌, ◌∙◌, sym, ap, not, List}
 use Rattle.std.specs.List.{list_any}
 use Rattle.rnv_pattern.specs.declared.pattern.Pattern.{Pattern}
-use Rattle.rnv_pattern.proofs.Tests.{positive-test}
+use Rattle.rnv_pattern.proofs.Deciding.{positive-test}
 use Rattle.rnv_pattern.proofs.matcher.ListMatcher.of.Goals as goal
 
 pub invariant_of-result : goal.invariant_of-result

@@ -2,7 +2,7 @@ use Rattle.std.proofs.Common.{◌≡◌, ◌∙◌, sym, ap}
 use Rattle.std.specs.Str.{chars}
 use Rattle.rnv_pattern.specs.Kept.{is_seen}
 use Rattle.rnv_pattern.specs.declared.matcher.Search.{Search}
-use Rattle.rnv_pattern.proofs.Tests.{globs-test}
+use Rattle.rnv_pattern.proofs.Deciding.{globs-test}
 use Rattle.rnv_pattern.proofs.matcher.Search.is_in.Goals as goal
 
 pub returns-in-Glob-clause-found : goal.returns-in-Glob-clause-found

@@ -1,4 +1,4 @@
-use Rattle.rnv_pattern.proofs.Tests.{rule-test}
+use Rattle.rnv_pattern.proofs.Deciding.{rule-test}
 use Rattle.rnv_pattern.proofs.pattern.Pattern.matches.Goals as goal
 
 pub returns-clause-test : goal.returns-clause-test
