@@ -131,6 +131,10 @@ finished_from (Ok text) limit exit tells files name moment start first g us vs o
     finished limit exit tells files name moment start first g us vs old new text stopped resumed (record { new = new; done = done; at_rest = rest; room = room }) refl
 finished_from (Err e) limit exit tells files name moment start first g us vs old new stopped resumed done rest room = tt
 
+-- the room of a journal, within its limit
+pub room_at : (ws : List Write) (n limit : ℕ) → n ≡ limit → length_of ws ≤ n → length_of ws ≤ limit
+room_at ws n limit same most = subst (λ (m : ℕ). length_of ws ≤ m) same most
+
 -- a run that leaves the disk at rest
 pub leaves_run : (r : Result (List ℕ) RunError) (tells : Type 0) (files : List NamedFile) (name : List ℕ) (moment limit : ℕ) (old new : List Write) (exit : Past) → IfOk r (IsRunDone tells files name moment old new)
     → OnOk r (IsAtRest limit exit (map spelling new)) → OnOk r (length_of new ≤ limit) → IfOk r (LeavesRun tells files name moment limit old exit)
