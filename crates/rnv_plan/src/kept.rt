@@ -11,15 +11,23 @@ use rnv_pick::Update;
 use std::alloc::{AllocError, Global};
 use std::convert::AsSlice;
 
+// An update with the name of its branch.
+fn with_name(alloc: Global, update: &Update) -> Result<NamedUpdate, AllocError>
+    ensures { IfOk result (λ named. named ≡ with_name update.now) }
+{
+    Ok(NamedUpdate {
+        branch: branch_of(alloc, update)?,
+        update: update.share(alloc)?,
+    })
+}
+
 // The updates with the names of their branches.
 fn with_names(alloc: Global, updates: &[Update]) -> Result<Vec<NamedUpdate>, AllocError>
     ensures { IfOk result (λ all. all.items ≡ map with_name updates.now) }
 {
     let mut all = Vec::new(alloc);
     for update in updates {
-        let branch = branch_of(alloc, update)?;
-        let update = update.share(alloc)?;
-        all.push(NamedUpdate { branch, update })?;
+        all.push(with_name(alloc, update)?)?;
     }
     Ok(all)
 }
