@@ -21,8 +21,9 @@ use Rattle.std.proofs.lemmas.Map.Lookups.{exact_bytes}
 use Rattle.std.proofs.lemmas.Map.Keys.{IsDistinct-from_sorted, IsDistinct-IsPermutation, apart_from_distinct, sorted_from_all_adjacent}
 use Rattle.std.proofs.lemmas.Option.{slice_get-get_or, get_or_from_slice_get, slice_get_within}
 use Rattle.rnv_pick.specs.declared.update.Update.{Update}
+use Rattle.rnv_base.specs.Kinds.{rank}
 use Rattle.rnv_plan.specs.declared.item.Item.{Item}
-use Rattle.rnv_plan.specs.Items.{branch_name, is_on, rank, item_cmp, IsItem, AreItems}
+use Rattle.rnv_plan.specs.Items.{branch_name, is_on, item_cmp, IsItem, AreItems}
 use Rattle.rnv_plan.specs.Groups.{not_empty, group_of, item_of}
 use Rattle.rnv_plan.proofs.Grouped.{equal, on_own}
 use Rattle.rnv_plan.proofs.GreatestKind.{is_greatest_kind}

@@ -1,11 +1,12 @@
 -- The updates of a branch, and the item that they make.
 use Rattle.std.specs.Prelude.{ℕ, List, [], ◌∷◌, Option, None, Some, if◌then◌else◌, nat_lt, filter, fold, map}
+use Rattle.rnv_base.specs.Kinds.{rank}
 use Rattle.rnv_base.specs.declared.kinds.UpdateKind.{UpdateKind}
 use Rattle.rnv_base.specs.declared.kinds.UpdateKind.TheVariants as kind
 use Rattle.rnv_pick.specs.declared.update.Update.{Update}
 use Rattle.rnv_plan.specs.declared.item.Item.{Item}
 use Rattle.rnv_plan.specs.declared.named.NamedUpdate.{NamedUpdate}
-use Rattle.rnv_plan.specs.Items.{is_on, priority_of, rank}
+use Rattle.rnv_plan.specs.Items.{is_on, priority_of}
 use Rattle.rnv_plan.specs.Named.{is_named}
 
 -- a list with an element in it

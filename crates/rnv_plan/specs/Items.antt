@@ -5,8 +5,8 @@ use Rattle.std.specs.List.Sorted.{IsStrictlySortedBy}
 use Rattle.std.specs.Ordering.{int_cmp, nat_cmp, on, then_cmp, flip_args, is_gt}
 use Rattle.std.specs.Cmp.Lexicographic.{pointwise, slice_cmp}
 use Rattle.std.specs.declared.cmp.Ordering.{Ordering}
+use Rattle.rnv_base.specs.Kinds.{rank}
 use Rattle.rnv_base.specs.declared.kinds.UpdateKind.{UpdateKind}
-use Rattle.rnv_base.specs.declared.kinds.UpdateKind.TheVariants as kind
 use Rattle.rnv_base.specs.declared.kinds.SourceKind.{SourceKind}
 use Rattle.rnv_base.specs.declared.kinds.SourceKind.TheVariants as source
 use Rattle.rnv_npm.specs.Version.{npm_version}
@@ -28,13 +28,6 @@ branch_name u = branch_of u.dep.package (major_of u.dep.source u.new_version)
 
 abbrev pub is_on : List ℕ → Update → Bool
 is_on branch u = pointwise ◌==◌ (branch_name u) branch
-
--- a pin, a patch, a minor and a major update, in rising order
-abbrev pub rank : UpdateKind → ℕ
-rank kind.Pin = 0
-rank kind.Patch = 1
-rank kind.Minor = 2
-rank kind.Major = 3
 
 -- the kind of some update, and no update's is above it
 pub record IsGreatestKind (k : UpdateKind) (updates : List Update) : Type 0 where
