@@ -73,7 +73,10 @@ fn writes_texts(rt: HostRuntime) -> Result<(), Fail> {
     };
     assert_eq!(rt; item.title.as_str(), "Update dependency react to 18.3.1");
     assert!(rt; item.body.as_str() == BODY);
-    assert_eq!(rt; item.closing.as_str(), "<!-- renovate-branch=renovate/react-18.x -->\n");
+    assert_eq!(rt;
+        item.closing.as_str(),
+        "<!-- renovate-branch=renovate/react-18.x -->\n"
+    );
     Ok(())
 }
 
@@ -85,7 +88,8 @@ repos/acme/web/package.json {"dependencies":{"a":"1.0.0","b":"1.0.0","c":"1.0.0"
 repos/acme/web/site/package.json {"devDependencies":{"a":"1.0.0"}}"#;
 
 // What is shown of their items: each edits one value of a file, and its files stand by path.
-const THREE_ITEMS: &str = r#"renovate/a-1.x 1.1.0 1.1.0 package.json {"dependencies":{"a":"1.1.0","b":"1.0.0","c":"1.0.0"}} site/package.json {"devDependencies":{"a":"1.1.0"}}
+const THREE_ITEMS: &str =
+    r#"renovate/a-1.x 1.1.0 1.1.0 package.json {"dependencies":{"a":"1.1.0","b":"1.0.0","c":"1.0.0"}} site/package.json {"devDependencies":{"a":"1.1.0"}}
 renovate/b-1.x 1.1.0 package.json {"dependencies":{"a":"1.0.0","b":"1.1.0","c":"1.0.0"}}
 renovate/c-1.x 1.1.0 package.json {"dependencies":{"a":"1.0.0","b":"1.0.0","c":"1.1.0"}}
 "#;
@@ -128,7 +132,11 @@ fn writes_titles(rt: HostRuntime) -> Result<(), Fail> {
         ("1.1.0", UpdateKind::Pin, "Pin dependencies"),
         ("2.0.0", UpdateKind::Major, "Update dependency a to 2.0.0"),
         // Control characters from outside are spaces.
-        ("1\u{0}\n\u{1f}\u{7f}é\u{80}", UpdateKind::Patch, "Update dependency a to 1    é\u{80}"),
+        (
+            "1\u{0}\n\u{1f}\u{7f}é\u{80}",
+            UpdateKind::Patch,
+            "Update dependency a to 1    é\u{80}",
+        ),
     ] {
         let title = title(rt.alloc(), [update(rt.alloc(), version, kind)?].as_slice())?;
         assert!(rt; title.as_str() == want);

@@ -118,9 +118,21 @@ fn orders_by_priority(rt: HostRuntime) -> Result<(), Fail> {
 #[test]
 fn keeps_last_updates(rt: HostRuntime) -> Result<(), Fail> {
     for (source, versions, want) in [
-        (SourceKind::Npm, "1.1.0 1.2.0 2.0.0 2.1.0 3.0.0", "a-1.x 1.2.0 a-2.x 2.1.0 a-3.x 3.0.0 "),
-        (SourceKind::Crates, "1.1.0 1.2.0+3 2.0.0-rc.1", "a-1.x 1.2.0+3 a-2.x 2.0.0-rc.1 "),
-        (SourceKind::Docker, "v3 18.2-alpine 18.10-alpine", "a-3.x v3 a-18.x 18.10-alpine "),
+        (
+            SourceKind::Npm,
+            "1.1.0 1.2.0 2.0.0 2.1.0 3.0.0",
+            "a-1.x 1.2.0 a-2.x 2.1.0 a-3.x 3.0.0 ",
+        ),
+        (
+            SourceKind::Crates,
+            "1.1.0 1.2.0+3 2.0.0-rc.1",
+            "a-1.x 1.2.0+3 a-2.x 2.0.0-rc.1 ",
+        ),
+        (
+            SourceKind::Docker,
+            "v3 18.2-alpine 18.10-alpine",
+            "a-3.x v3 a-18.x 18.10-alpine ",
+        ),
         (SourceKind::Npm, "v3 18.2-alpine", "a-0.x 18.2-alpine "),
     ] {
         let mut updates = Vec::new(rt.alloc());
@@ -131,7 +143,11 @@ fn keeps_last_updates(rt: HostRuntime) -> Result<(), Fail> {
         }
         let mut said = String::new(rt.alloc());
         for named in kept(rt.alloc(), updates.as_slice())?.as_slice() {
-            let branch = named.branch.as_str().strip_prefix("renovate/").ok_or("prefix")?;
+            let branch = named
+                .branch
+                .as_str()
+                .strip_prefix("renovate/")
+                .ok_or("prefix")?;
             let version = named.update.new_version.as_str();
             said.push_str(format!(in rt.alloc(); "{branch} {version} ")?.as_str())?;
         }
