@@ -8,11 +8,12 @@ ghost use Rattle.rnv_store.specs.declared.forge.ForgePrepareError.TheVariants.{F
 ghost use Rattle.rnv_store.specs.declared.stored.CheckError.TheVariants.{Refused};
 ghost use Rattle.rnv_store.specs.Forge.{IsOverfull};
 ghost use Rattle.rnv_store.specs.InMemory.{HoldsInMemory, in_memory_permitted, in_memory_well_formed, in_memory_within, no_past, nothing_at_rest};
+ghost use Rattle.rnv_store.specs.Laws.{store_bounded, store_sound};
 ghost use Rattle.rnv_store.specs.Refused.{IsFirstRefused};
 ghost use Rattle.rnv_store.specs.Writes.{length_of};
 
 use crate::store::Store;
-use crate::stored::{CheckError, checked, names_of};
+use crate::stored::{CheckError, checked};
 use crate::{Forge, ForgePrepareError, WriteError};
 use rnv_base::{List, Text};
 use rnv_forge::{ApplyError, Repo, Write};
@@ -84,12 +85,17 @@ impl Forge for MemForge {
 
     ghost within = { λ f h. in_memory_within f.all.items f.done f.limit h };
 
+    ghost small = { λ f h. h.small };
+
+    ghost sound = { λ f h. store_sound (take f.done f.all.items) (drop f.done f.all.items) (in_memory_well_formed f.all.items f.done f.limit h) (in_memory_permitted f.all.items f.done f.limit h) };
+
+    ghost bounded = { λ f h. store_bounded (take f.done f.all.items) (drop f.done f.all.items) f.limit (in_memory_permitted f.all.items f.done f.limit h) (in_memory_within f.all.items f.done f.limit h) h.small };
+
     ghost at_rest = { λ f h opened. nothing_at_rest f.limit (map spelling (take f.done f.all.items)) };
 
     fn names(&self, alloc: Global) -> Result<List<Text>, AllocError> {
         let store = store_of(alloc, &self.all[..self.done])?;
-        let repos = store.into_repos(alloc)?;
-        names_of(alloc, repos.as_slice())
+        store.names(alloc)
     }
 
     fn repo(&self, alloc: Global, name: &Text) -> Result<Option<Repo>, AllocError> {
