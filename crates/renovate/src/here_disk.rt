@@ -2,44 +2,49 @@ ghost use Rattle.std.specs.Prelude.{◌≡◌, ◌≤◌};
 ghost use Rattle.rnv_base.specs.Causes.{Rose};
 
 use crate::here_file::HereFile;
+use crate::notes::{Progress, note};
 use rnv_base::{Bytes, Failed};
 use rnv_disk::{Disk, DiskError, FileNo};
 use std::alloc::Global;
-use std::io::ErrorKind;
+use std::io;
+use std::io::{Eprint, ErrorKind};
 use std::rt::Files;
 
 /// The files `forge.0` and `forge.1` of the folder where the program runs. It tells nothing of what
 /// they hold, and counts each call that the system failed.
 #[derive(Drop)]
-pub struct HereDisk<R: Files + Drop> {
+pub struct HereDisk<R: Files + Eprint + Drop> {
     rt: R,
     zero: HereFile<R>,
     one: HereFile<R>,
+    progress: Progress,
     faults: u64,
 }
 
-impl<R: Files + Drop> HereDisk<R> {
-    /// The files as this runtime sees them. None is opened or made yet.
-    pub fn new(rt: R) -> HereDisk<R> {
+impl<R: Files + Eprint + Drop> HereDisk<R> {
+    /// The files as this runtime sees them. None is opened or made yet. Syncs are steps of this progress.
+    pub fn new(rt: R, progress: Progress) -> HereDisk<R> {
         HereDisk {
             rt,
-            zero: HereFile::new("forge.0"),
-            one: HereFile::new("forge.1"),
+            zero: HereFile::new(name_of(FileNo::Zero)),
+            one: HereFile::new(name_of(FileNo::One)),
+            progress,
             faults: 0,
         }
     }
 
-    // Counts an error of the system.
-    fn fault(&mut self) -> Failed
+    // Counts an error of the system, and notes it.
+    fn fault(&mut self, file: FileNo, error: &io::Error) -> Failed
         ensures later { self.old.faults ≤ self.new.faults }
         ensures rose { Rose self.old.faults self.new.faults }
     {
+        note(&self.rt, name_of(file), error);
         self.faults = self.faults.saturating_add(1);
         Failed
     }
 }
 
-impl<R: Files + Drop> Disk for HereDisk<R> {
+impl<R: Files + Eprint + Drop> Disk for HereDisk<R> {
     ghost use Rattle.std.specs.Prelude.{[]};
 
     ghost tells = { ⊥ };
@@ -62,8 +67,8 @@ impl<R: Files + Drop> Disk for HereDisk<R> {
         match bytes {
             Ok(bytes) => Ok(Bytes::new(bytes)),
             Err(error) if error.kind() == ErrorKind::OutOfMemory => Err(DiskError::Memory),
-            Err(_) => {
-                let _ = self.fault();
+            Err(error) => {
+                let _ = self.fault(file, &error);
                 Err(DiskError::Failed)
             }
         }
@@ -76,7 +81,7 @@ impl<R: Files + Drop> Disk for HereDisk<R> {
         };
         match done {
             Ok(()) => Ok(()),
-            Err(_) => Err(self.fault()),
+            Err(error) => Err(self.fault(file, &error)),
         }
     }
 
@@ -87,18 +92,27 @@ impl<R: Files + Drop> Disk for HereDisk<R> {
         };
         match done {
             Ok(()) => Ok(()),
-            Err(_) => Err(self.fault()),
+            Err(error) => Err(self.fault(file, &error)),
         }
     }
 
     fn sync(&mut self, file: FileNo) -> Result<(), Failed> {
+        self.progress.step(&self.rt, "syncs of the store");
         let done = match file {
             FileNo::Zero => self.zero.sync(&self.rt),
             FileNo::One => self.one.sync(&self.rt),
         };
         match done {
             Ok(()) => Ok(()),
-            Err(_) => Err(self.fault()),
+            Err(error) => Err(self.fault(file, &error)),
         }
+    }
+}
+
+// The name of a file of the store.
+fn name_of(file: FileNo) -> &'static str {
+    match file {
+        FileNo::Zero => "forge.0",
+        FileNo::One => "forge.1",
     }
 }

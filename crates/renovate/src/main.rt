@@ -2,19 +2,24 @@
 //! with the status.
 #![tactic(auto)]
 
+mod help;
 mod here_disk;
 mod here_file;
 mod here_folder;
+mod notes;
 mod stream_sink;
 #[cfg(test)]
 mod tests;
 mod walk;
 
+use help::{USAGE, answer};
 use here_disk::HereDisk;
 use here_folder::HereFolder;
+use notes::{Progress, clear_progress};
 use rnv_app::{Outside, renovate};
-use rnv_base::{List, Text};
-use std::io::ErrorKind;
+use rnv_base::{List, Sink, Text, write_all};
+use std::convert::{AsSlice, AsStr};
+use std::io::{Eprint, ErrorKind, IsTerminal};
 use std::process::ExitCode;
 use std::rt::Env;
 use std::{env, io};
@@ -22,13 +27,58 @@ use stream_sink::StreamSink;
 
 fn main(rt: HostRuntime) -> io::Result<ExitCode> {
     let words = words(&rt)?;
+    let mut out = StreamSink::new(rt.clone()?, rt.stdout(), "standard output");
+    if let Some(pieces) = answer(&words) {
+        return Ok(ExitCode::from(print(&mut out, pieces)));
+    }
+    let is_shown = rt.stderr().is_terminal();
     let outside = Outside {
-        out: StreamSink::new(rt.stdout()),
-        folder: HereFolder::new(rt.clone()?),
-        disk: HereDisk::new(rt.clone()?),
+        out,
+        folder: HereFolder::new(rt.clone()?, Progress::new(is_shown)),
+        disk: HereDisk::new(rt.clone()?, Progress::new(is_shown)),
     };
     let ended = renovate(rt.alloc(), &words, outside);
+    if is_shown {
+        clear_progress(&rt);
+    }
+    explain(&rt, &words, ended.status.code);
     Ok(ExitCode::from(ended.status.code))
+}
+
+// Writes the pieces, and gives the status: that of a failed write where the output took not all.
+fn print<K: Sink>(out: &mut K, pieces: [&str; 2]) -> u8 {
+    for piece in pieces {
+        if write_all(out, piece.as_bytes()).is_err() {
+            return 10;
+        }
+    }
+    0
+}
+
+// Says on standard error what the printed line of a refusal does not. Errors of the system were noted
+// where they came.
+fn explain<R: Eprint>(rt: &R, words: &List<Text>, code: u8) {
+    let _ = match (code, words.as_slice()) {
+        (2, _) => rt.eprint(USAGE),
+        (3, [command, repo, ..]) if matches!(command.as_str(), "run" | "show") => {
+            eprintln!(rt;
+                "renovate: the store forge.0 has no repository {}",
+                repo.as_str()
+            )
+        }
+        (3, [_, repo, ..]) => {
+            eprintln!(rt;
+                "renovate: no file of a repository stands below repos/{}/",
+                repo.as_str()
+            )
+        }
+        (8, _) => {
+            eprintln!(rt;
+                "renovate: forge.0 is no store, or is damaged from there on; it was left as it is"
+            )
+        }
+        _ => Ok(()),
+    };
 }
 
 // The words after the program's name. Where one is not UTF-8, none: no command has such a word.

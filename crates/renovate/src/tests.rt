@@ -1,5 +1,6 @@
 use crate::here_disk::HereDisk;
 use crate::here_folder::HereFolder;
+use crate::notes::Progress;
 use crate::stream_sink::StreamSink;
 use rnv_base::{Failed, Folder, Sink};
 use rnv_disk::{Disk, DiskError, FileNo};
@@ -25,7 +26,7 @@ fn files_here(rt: HostRuntime) -> Result<(), Fail> {
     ] {
         fs::write(&rt, path, path)?;
     }
-    let mut folder = HereFolder::new(rt.clone()?);
+    let mut folder = HereFolder::new(rt.clone()?, Progress::new(false));
     for (prefix, want) in [
         (
             "repos/acme/web/",
@@ -64,7 +65,7 @@ fn files_here(rt: HostRuntime) -> Result<(), Fail> {
 fn bytes_out(rt: HostRuntime) -> Result<(), Fail> {
     let mut room = [0u8; 3];
     {
-        let mut sink = StreamSink::new(room.as_mut_slice());
+        let mut sink = StreamSink::new(rt.clone()?, room.as_mut_slice(), "the test's stream");
         assert_eq!(rt; sink.write(b"ab"), Ok(2));
         assert_eq!(rt; sink.write(b"cd"), Ok(1));
         assert_eq!(rt; sink.write(b""), Ok(0));
@@ -81,7 +82,7 @@ fn two_files(rt: HostRuntime) -> Result<(), Fail> {
     let place = env::temp_dir(&rt)?.join(rt.alloc(), name.as_str())?;
     fs::create_dir_all(&rt, place.as_path())?;
     env::set_current_dir(&rt, place.as_path())?;
-    let mut disk = HereDisk::new(rt.clone()?);
+    let mut disk = HereDisk::new(rt.clone()?, Progress::new(false));
     assert_eq!(rt; disk.write_at(FileNo::Zero, 0, b"abcdef"), Ok(()));
     assert_eq!(rt; disk.write_at(FileNo::Zero, 4, b"EFG"), Ok(()));
     assert_eq!(rt; disk.write_at(FileNo::One, 0, b"other"), Ok(()));
@@ -89,7 +90,7 @@ fn two_files(rt: HostRuntime) -> Result<(), Fail> {
     assert_eq!(rt; disk.cut(FileNo::Zero, 5), Ok(()));
     assert_eq!(rt; disk.cut(FileNo::One, 9), Ok(()));
     // Another adapter over the same files.
-    let mut again = HereDisk::new(rt.clone()?);
+    let mut again = HereDisk::new(rt.clone()?, Progress::new(false));
     for (file, want) in [(FileNo::Zero, "abcdE"), (FileNo::One, "other")] {
         let bytes = again.read(rt.alloc(), file).map_err(|_| "no bytes")?;
         assert_eq!(rt; bytes.as_slice(), want.as_bytes());
@@ -99,7 +100,7 @@ fn two_files(rt: HostRuntime) -> Result<(), Fail> {
     fs::create_dir_all(&rt, place.as_path())?;
     env::set_current_dir(&rt, place.as_path())?;
     fs::create_dir_all(&rt, "forge.0")?;
-    let mut none = HereDisk::new(rt.clone()?);
+    let mut none = HereDisk::new(rt.clone()?, Progress::new(false));
     assert_eq!(rt; none.write_at(FileNo::Zero, 0, b"a"), Err(Failed));
     assert_eq!(rt; none.sync(FileNo::Zero), Err(Failed));
     assert_eq!(rt;

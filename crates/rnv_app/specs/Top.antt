@@ -12,7 +12,7 @@ use Rattle.rnv_plan.specs.declared.error.RunError.{RunError}
 use Rattle.rnv_plan.specs.declared.error.RunError.TheVariants as run
 use Rattle.rnv_plan.specs.Plan.{IsPlanned, IsPlanRefusal}
 use Rattle.rnv_run.specs.declared.on_disk.RunRefusal.{RunRefusal}
-use Rattle.rnv_run.specs.OnDisk.{IsRefusedIn, Runs}
+use Rattle.rnv_run.specs.OnDisk.{HasRepo, IsRefusedIn, Runs}
 use Rattle.rnv_app.specs.declared.end.Refusal.{Refusal}
 use Rattle.rnv_app.specs.declared.end.Refusal.TheVariants.{Memory, Usage, UnknownRepo, FolderFault, DiskFault, NotAJournal, Limit, IndexRefused, NotBuilt}
 use Rattle.rnv_app.specs.Words.{IsImport, IsPlan, IsRun, IsShow, IsUsage}
@@ -159,6 +159,15 @@ pub record IsRunEnd (s : Sight) (repo : List ℕ) (moment : ℕ) (out_tells : Ty
 pub record IsFreeRun (files : List NamedFile) (repo : List ℕ) (moment : ℕ) (file : List ℕ) : Type 0 where
   pub whole : (offset : ℕ) → ¬ (IsDamaged 268435456 file offset)
   pub free : (error : RunError) → ¬ (IsRefusedIn files repo moment 268435456 file error)
+
+-- What may come where this is the cause of a refusal in the store and the folder's files: its status; or before it want of memory, a
+-- fault of the disk, or one of the folder, for which the store has to have the repository.
+abbrev pub IsRunCauseOr : List ℕ → List ℕ → RunError → ℕ → Type 0
+IsRunCauseOr repo file error code = (code ≡ status_of error) ⊎ ((code ≡ 1) ⊎ ((code ≡ 7) ⊎ ((code ≡ 5) × HasRepo repo 268435456 file)))
+
+-- what may come where the bytes on the disk are no store: 8; or before it want of memory, or a fault of the disk
+abbrev pub IsDamagedOr : ℕ → Type 0
+IsDamagedOr code = (code ≡ 8) ⊎ ((code ≡ 1) ⊎ (code ≡ 7))
 
 -- the text or refusal that the words give
 

@@ -2,12 +2,14 @@ ghost use Rattle.std.specs.Prelude.{◌≡◌, ◌↔◌, ◌⊎◌, ◌≤◌, 
 ghost use Rattle.rnv_base.specs.Causes.{Rose, FaultsBy};
 ghost use Rattle.rnv_base.specs.Files.{NamedFile};
 ghost use Rattle.rnv_app.specs.End.{line_of, status_of, IsCause, IsCauseOr, IsLine, IsStatus, IsTold};
-ghost use Rattle.rnv_app.specs.Top.{refusing, HasNoPlan, HasPlan, IsAnswered, IsForImport, IsForShow, IsFree, IsFreeRun, IsImportEnd, IsNamed, IsOfPlan, IsPrinted, IsPrintedInPart, IsRefusedWith, IsForRun, IsRunEnd, IsShowEnd, Tells, running};
+ghost use Rattle.rnv_app.specs.Top.{refusing, HasNoPlan, HasPlan, IsAnswered, IsForImport, IsForShow, IsFree, IsFreeRun, IsImportEnd, IsNamed, IsOfPlan, IsPrinted, IsPrintedInPart, IsRefusedWith, IsDamagedOr, IsForRun, IsRunCauseOr, IsRunEnd, IsShowEnd, Tells, running};
 ghost use Rattle.rnv_app.specs.Words.{IsImport, IsPlan, IsRun, IsShow, IsUsage};
 ghost use Rattle.rnv_app.specs.declared.end.Refusal.{Refusal as Cause};
 ghost use Rattle.rnv_app.specs.declared.end.Refusal.TheVariants.{DiskFault as disk_fault, FolderFault as folder_fault, Memory as no_memory};
 ghost use Rattle.rnv_plan.specs.declared.error.RunError.{RunError as Error};
+ghost use Rattle.rnv_commands.specs.OnDisk.{IsDamaged};
 ghost use Rattle.rnv_plan.specs.Plan.{IsPlanned, IsPlanRefusal};
+ghost use Rattle.rnv_run.specs.OnDisk.{IsRefusedIn};
 
 use crate::end::{plan_refusal_of, refusal_of, run_refusal_of};
 use crate::plan_text::plan_text;
@@ -96,6 +98,12 @@ pub fn renovate<K: Sink, O: Folder, D: Disk>(
         repo now K.tells (K.held outside.out) (K.held result.outside.out) (K.faults outside.out) (K.faults result.outside.out) result.status.code }
 
     ensures run_complete { (repo : Items ℕ) (now : ℕ) → IsRun words.now repo now → O.tells → D.tells → IsFreeRun (O.files outside.folder) repo now (D.seen outside.disk).zero → ¬ Rose (O.faults outside.folder) (O.faults result.outside.folder) → ¬ Rose (D.faults outside.disk) (D.faults result.outside.disk) → ¬ Rose (K.faults outside.out) (K.faults result.outside.out) → (result.status.code ≡ 0) ⊎ (result.status.code ≡ 1) }
+
+    // Each cause of a refusal of a run, but for want of memory or a fault before it; one of the folder only where the store
+    // has the repository.
+    ensures run_exactly { (repo : Items ℕ) (now : ℕ) → IsRun words.now repo now → O.tells → D.tells → (error : Error) → IsRefusedIn (O.files outside.folder) repo now 268435456 (D.seen outside.disk).zero error → IsRunCauseOr repo (D.seen outside.disk).zero error result.status.code }
+
+    ensures run_damaged { (repo : Items ℕ) (now : ℕ) → IsRun words.now repo now → O.tells → D.tells → (offset : ℕ) → IsDamaged 268435456 (D.seen outside.disk).zero offset → IsDamagedOr result.status.code }
 
     ensures same { O.tells → (O.files result.outside.folder ≡ O.files outside.folder) }
     ensures folder_later { O.faults outside.folder ≤ O.faults result.outside.folder }

@@ -2,5 +2,8 @@ pub mod Buffer
 pub mod Causes
 pub mod Civil
 pub mod Files
+pub mod Kinds
 pub mod Moment
 pub mod Names
+pub mod Turns
+pub mod Values

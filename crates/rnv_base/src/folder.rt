@@ -1,5 +1,5 @@
 ghost use Rattle.std.specs.Prelude.{◌≡◌, ℕ, List, IfOk};
-ghost use Rattle.rnv_base.specs.Causes.{FaultsBy};
+ghost use Rattle.rnv_base.specs.Causes.{FaultsBy, PassesNone};
 ghost use Rattle.rnv_base.specs.Files.{NamedFile, read_of, bytes_inside, listed_of, IsRising};
 ghost use Rattle.rnv_base.specs.declared.folder.FolderError.TheVariants.{Failed};
 
@@ -27,17 +27,19 @@ pub trait Folder {
     ghost faults: { Self → ℕ };
 
     /// The file's first 67,108,865 bytes, or None where there is no file. `Failed` only where the
-    /// count of faults rose.
+    /// count of faults rose, and it rises only there.
     fn read(&mut self, alloc: Global, path: &str) -> Result<Option<Bytes>, FolderError>
         ensures bytes { tells → IfOk result (λ found. bytes_inside found ≡ read_of path.now (files self.old)) }
         ensures same { tells → (files self.new ≡ files self.old) }
-        ensures cause { FaultsBy (faults self.old) (faults self.new) result Failed };
+        ensures cause { FaultsBy (faults self.old) (faults self.new) result Failed }
+        ensures passed { PassesNone (faults self.old) (faults self.new) result Failed };
 
     /// The paths that begin with the prefix. They are distinct and rise, also where nothing is told.
-    /// `Failed` only where the count of faults rose.
+    /// `Failed` only where the count of faults rose, and it rises only there.
     fn list(&mut self, alloc: Global, prefix: &str) -> Result<List<Text>, FolderError>
         ensures paths { tells → IfOk result (λ paths. paths ≡ listed_of prefix.now (files self.old)) }
         ensures rising { IfOk result IsRising }
         ensures same { tells → (files self.new ≡ files self.old) }
-        ensures cause { FaultsBy (faults self.old) (faults self.new) result Failed };
+        ensures cause { FaultsBy (faults self.old) (faults self.new) result Failed }
+        ensures passed { PassesNone (faults self.old) (faults self.new) result Failed };
 }

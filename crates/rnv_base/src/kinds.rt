@@ -1,3 +1,8 @@
+ghost use Rattle.std.specs.Prelude.{◌≡◌};
+ghost use Rattle.std.specs.Ordering.{nat_cmp};
+ghost use Rattle.rnv_base.specs.Kinds.{rank};
+ghost use Rattle.rnv_base.specs.declared.kinds.UpdateKind.{UpdateKind};
+
 /// What reads the dependencies of a file.
 #[derive(Clone, Copy, Debug, PartialEq, Eq)]
 pub enum ManagerKind {
@@ -34,3 +39,8 @@ pub enum Strategy {
     Widen,
     InRangeOnly,
 }
+
+/// Does nothing: its promise is that kinds of updates compare by how far they go.
+pub fn kinds_rise()
+    ensures { (a b : UpdateKind) → ⟦<UpdateKind as Ord>⟧.cmp a b ≡ nat_cmp (rank a) (rank b) }
+{}

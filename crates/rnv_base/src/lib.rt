@@ -5,6 +5,7 @@
 mod bytes;
 mod civil;
 mod failed;
+mod failing;
 mod folder;
 mod kinds;
 mod list;
@@ -23,8 +24,9 @@ mod writing;
 
 pub use bytes::Bytes;
 pub use failed::Failed;
+pub use failing::Failing;
 pub use folder::{Folder, FolderError};
-pub use kinds::{ManagerKind, SourceKind, Strategy, UpdateKind};
+pub use kinds::{ManagerKind, SourceKind, Strategy, UpdateKind, kinds_rise};
 pub use list::List;
 pub use mem_folder::{MemFile, MemFolder};
 pub use mem_sink::MemSink;

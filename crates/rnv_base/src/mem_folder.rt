@@ -1,8 +1,11 @@
-ghost use Rattle.std.specs.Prelude.{◌≡◌, ◌↔◌, IfOk, IfSome, IsSome, IsTrue, take};
+ghost use Rattle.std.specs.Prelude.{◌≡◌, ◌≤◌, ◌↔◌, IfOk, IfSome, IsErrOf, IsSome, IsTrue, take};
+ghost use Rattle.rnv_base.specs.Causes.{FaultsBy, PassesNone, Rose};
 ghost use Rattle.rnv_base.specs.Files.{read_of, bytes_inside, listed_of, paths_of, IsRising};
+ghost use Rattle.rnv_base.specs.Turns.{IsListed, first_turn, next_turn};
+ghost use Rattle.rnv_base.specs.declared.folder.FolderError.TheVariants.{Failed};
 ghost use Rattle.std.proofs.lemmas.Map.Keys.{IsStrictlySortedBy-prop};
 
-use crate::{Bytes, Folder, FolderError, List, Share, Text, is_rising};
+use crate::{Bytes, Failing, Folder, FolderError, List, Share, Text, is_rising};
 use std::alloc::{AllocError, Global};
 use std::convert::{AsSlice, AsStr};
 use std::marker::Model;
@@ -29,8 +32,7 @@ impl Model for MemFile {
 #[derive(Drop)]
 pub struct MemFolder {
     files: List<MemFile>,
-    failing: List<u64>,
-    calls: u64,
+    failing: Failing,
     faults: u64,
     ghost rising: { IsRising (paths_of files) } by { IsStrictlySortedBy-prop _ _ },
 }
@@ -46,17 +48,32 @@ impl MemFolder {
         ensures exactly { IfOk result (λ made. IsSome made ↔ IsRising (paths_of files)) }
         ensures files { IfOk result (λ made. IfSome made (λ folder. ⟦<MemFolder as Folder>⟧.files folder ≡ files)) }
         ensures unfailed { IfOk result (λ made. IfSome made (λ folder. ⟦<MemFolder as Folder>⟧.faults folder ≡ 0)) }
-        ensures failing { IfOk result (λ made. IfSome made (λ folder. folder.failing ≡ failing)) }
+        ensures failing { IfOk result (λ made. IfSome made (λ folder. folder.failing ≡ first_turn failing)) }
     {
         if !are_rising(alloc, files.as_slice())? {
             return Ok(None);
         }
         Ok(Some(MemFolder {
             files,
-            failing,
-            calls: 0,
+            failing: Failing::new(failing),
             faults: 0,
         }))
+    }
+
+    // Counts the call, and a fault if it is to fail, which it answers.
+    fn fails(&mut self) -> bool
+        ensures listed { IsTrue result ↔ IsListed self.old.failing }
+        ensures later { self.old.faults ≤ self.new.faults }
+        ensures rose { IsTrue result → Rose self.old.faults self.new.faults }
+        ensures passed { ¬ IsTrue result → self.new.faults ≡ self.old.faults }
+        ensures same { self.new.files ≡ self.old.files }
+        ensures turn { self.new.failing ≡ next_turn self.old.failing }
+    {
+        let fails = self.failing.strikes();
+        if fails {
+            self.faults = self.faults.saturating_add(1);
+        }
+        fails
     }
 }
 
@@ -67,11 +84,15 @@ impl Folder for MemFolder {
 
     ghost faults = { λ s. s.faults };
 
-    fn read(&mut self, alloc: Global, path: &str) -> Result<Option<Bytes>, FolderError> {
-        let call = self.calls;
-        self.calls = call.saturating_add(1);
-        if self.failing.as_slice().contains(&call) {
-            self.faults = self.faults.saturating_add(1);
+    fn read(&mut self, alloc: Global, path: &str) -> Result<Option<Bytes>, FolderError>
+        ensures bytes { IfOk result (λ found. bytes_inside found ≡ read_of path.now self.old.files) }
+        ensures same { self.new.files ≡ self.old.files }
+        ensures cause { FaultsBy self.old.faults self.new.faults result Failed }
+        ensures passed { PassesNone self.old.faults self.new.faults result Failed }
+        ensures listed { IsErrOf result Failed ↔ IsListed self.old.failing }
+        ensures turn { self.new.failing ≡ next_turn self.old.failing }
+    {
+        if self.fails() {
             return Err(FolderError::Failed);
         }
         match find(alloc, self.files.as_slice(), path) {
@@ -81,11 +102,16 @@ impl Folder for MemFolder {
     }
 
     #[tactic(auto, using(crate::proofs::Listed::listed_rises))]
-    fn list(&mut self, alloc: Global, prefix: &str) -> Result<List<Text>, FolderError> {
-        let call = self.calls;
-        self.calls = call.saturating_add(1);
-        if self.failing.as_slice().contains(&call) {
-            self.faults = self.faults.saturating_add(1);
+    fn list(&mut self, alloc: Global, prefix: &str) -> Result<List<Text>, FolderError>
+        ensures paths { IfOk result (λ paths. paths ≡ listed_of prefix.now self.old.files) }
+        ensures rising { IfOk result IsRising }
+        ensures same { self.new.files ≡ self.old.files }
+        ensures cause { FaultsBy self.old.faults self.new.faults result Failed }
+        ensures passed { PassesNone self.old.faults self.new.faults result Failed }
+        ensures listed { IsErrOf result Failed ↔ IsListed self.old.failing }
+        ensures turn { self.new.failing ≡ next_turn self.old.failing }
+    {
+        if self.fails() {
             return Err(FolderError::Failed);
         }
         match listed(alloc, self.files.as_slice(), prefix) {

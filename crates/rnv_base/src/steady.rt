@@ -1,4 +1,5 @@
-ghost use Rattle.std.specs.Prelude.{◌≡◌, [], ◌↔◌, IsSome, IfSome, IfOk};
+ghost use Rattle.std.specs.Prelude.{◌≡◌, ◌+◌, ◌<◌, ◌≤◌, ◌++◌, [], ◌↔◌, length, take, vec_len, vec_capacity, IsSome, IfSome, IfOk, OnErr};
+ghost use Rattle.rnv_base.specs.Causes.{FailsBy};
 ghost use Rattle.rnv_base.specs.Files.{paths_of, IsRising};
 ghost use Rattle.std.proofs.lemmas.Map.Keys.{IsStrictlySortedBy-prop};
 
@@ -84,7 +85,16 @@ impl Sink for SteadySink {
 
     ghost faults = { λ s. s.faults };
 
-    fn write(&mut self, bytes: &[u8]) -> Result<usize, Failed> {
+    /// Takes all the bytes, or fails where there is no room for them.
+    fn write(&mut self, bytes: &[u8]) -> Result<usize, Failed>
+        ensures within { IfOk result (λ n. n ≤ length bytes.now) }
+        ensures some { IfOk result (λ n. 0 < length bytes.now → 0 < n) }
+        ensures bytes { IfOk result (λ n. self.new.bytes.items ≡ self.old.bytes.items ++ take n bytes.now) }
+        ensures same { OnErr result (self.new.bytes.items ≡ self.old.bytes.items) }
+        ensures cause { FailsBy self.old.faults self.new.faults result }
+        ensures whole { IfOk result (λ n. n ≡ length bytes.now) }
+        ensures failed { OnErr result (vec_capacity self.old.bytes < vec_len self.old.bytes + length bytes.now) }
+    {
         if self.bytes.extend_from_slice(bytes).is_err() {
             self.faults = self.faults.saturating_add(1);
             return Err(Failed);

@@ -7,7 +7,7 @@ use Rattle.rnv_disk.specs.declared.call.Call.TheVariants.{Write, Cut, Sync}
 use Rattle.rnv_disk.specs.Images.{Image, Same, part, put, On, Torn, CutTo}
 use Rattle.rnv_disk.specs.Stops.{Past, Elapses}
 use Rattle.rnv_disk.specs.Course.{Course, IsImage, is_image, seen_of, past_of}
-use Rattle.rnv_disk.proofs.Ranges.{torn_put, torn_wider, on_wider, cut_take, on_part, with_part-part}
+use Rattle.rnv_disk.proofs.Ranges.{torn_put, torn_wider, on_wider, cut_take, on_part, part_kept}
 use Rattle.rnv_disk.proofs.OneMore.{none, longer, one_more}
 
 -- the course after a call that was done or refused
@@ -48,7 +48,7 @@ module _ (course : Course) (file : FileNo) where
   sync_more = one_more course (Sync file) Same comes
     where
       comes : (c : Image) → IsImage course.first (Sync file ∷ reverse course.calls) c → (d : Image) × IsImage course.first (reverse course.calls) d × Same d c
-      comes c (inl is) = (seen, is_image course.first (reverse course.calls), is ∙ with_part-part file seen)
+      comes c (inl is) = (seen, is_image course.first (reverse course.calls), is ∙ part_kept file seen)
       comes c (inr from) = (c, from.0, refl)
 
 -- a write that is cut short may be the front of a longer one

@@ -51,6 +51,6 @@ pub on_wider : (file : FileNo) (step wide : List ℕ → List ℕ → Type 0) �
 on_wider file step wide widens d c on = record { here = widens (part file d) (part file c) on.here; there = on.there }
 
 -- a file that keeps its bytes
-pub with_part-part : (file : FileNo) (i : Image) → with_part file (part file i) i ≡ i
-with_part-part Zero i = refl
-with_part-part One i = refl
+pub part_kept : (file : FileNo) (i : Image) → with_part file (part file i) i ≡ i
+part_kept Zero i = refl
+part_kept One i = refl

@@ -33,17 +33,23 @@ part_torn (Write file at bytes) torn old = put at (take (length bytes.bytes) tor
 part_torn (Cut file n) torn old = take n old ++ take (length old - n) torn
 part_torn (Sync file) torn old = old
 
+-- what a read gives after a call, from what one before it gives
+abbrev pub one_after : Call → Image → Image
+one_after call i = with_part (file_of call) (part_after call (part (file_of call) i)) i
+
+-- what a read gives after a stop within a call
+abbrev pub one_torn : Call → List ℕ → Image → Image
+one_torn call torn i = with_part (file_of call) (part_torn call torn (part (file_of call) i)) i
+
 -- what a read gives after these calls, the newest first
 abbrev pub after : Image → List Call → Image
 after first [] = first
-after first (call ∷ older) =
-    with_part (file_of call) (part_after call (part (file_of call) (after first older))) (after first older)
+after first (call ∷ older) = one_after call (after first older)
 
 -- what a read gives after a stop within the first of these calls, which follow the older ones
 abbrev pub after_part : Image → List Call → List Call → List ℕ → Image
 after_part first older [] torn = after first older
-after_part first older (call ∷ later) torn =
-    with_part (file_of call) (part_torn call torn (part (file_of call) (after first older))) (after first older)
+after_part first older (call ∷ later) torn = one_torn call torn (after first older)
 
 -- whether a write begins within its file
 abbrev pub fits : Call → Image → Bool

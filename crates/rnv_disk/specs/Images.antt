@@ -1,5 +1,5 @@
 -- The bytes of both files, and what a call or a stop within it does to them.
-use Rattle.std.specs.Prelude.{◌≡◌, ℕ, ◌+◌, ◌≤◌, max, List, ◌++◌, length, take, drop}
+use Rattle.std.specs.Prelude.{◌≡◌, ◌⊎◌, ℕ, ◌+◌, ◌/◌, ◌≤◌, max, List, ◌++◌, length, take, drop}
 use Rattle.rnv_disk.specs.declared.device.FileNo.{FileNo}
 use Rattle.rnv_disk.specs.declared.device.FileNo.TheVariants.{Zero, One}
 
@@ -44,6 +44,10 @@ pub record Torn (at n : ℕ) (old new : List ℕ) : Type 0 where
   pub after : drop (at + n) new ≡ drop (at + n) old
   pub no_shorter : length old ≤ length new
   pub no_longer : length new ≤ max (length old) (at + n)
+
+-- half of the bytes of a write from an offset on have reached a file, or none
+abbrev pub IsHalf : ℕ → List ℕ → List ℕ → List ℕ → Type 0
+IsHalf at bytes old new = (new ≡ put at (take (length bytes / 2) bytes) old) ⊎ (new ≡ old)
 
 -- A cut to n bytes that may or may not have happened: the bytes past its length may hold anything,
 -- and those before it stay.

@@ -1,10 +1,10 @@
-ghost use Rattle.std.specs.Prelude.{◌≡◌, ◌++◌, ◌-◌, length, take, IfOk};
-ghost use Rattle.rnv_disk.specs.Images.{put};
-ghost use Rattle.rnv_disk.specs.Course.{file_of, part_after, part_torn};
+ghost use Rattle.std.specs.Prelude.{◌≡◌, OnOk, OnErr};
+ghost use Rattle.rnv_disk.specs.Course.{file_of, one_after, one_torn};
 
-use crate::FileNo;
+use crate::content::front;
+use crate::{Content, FileNo};
 use rnv_base::Bytes;
-use std::alloc::{AllocError, Global};
+use std::alloc::AllocError;
 use std::convert::AsSlice;
 
 /// A call that a disk in memory has done. Reads are not among them.
@@ -29,61 +29,33 @@ impl Call {
     }
 }
 
-// The file's bytes after the call, from those before it.
-pub fn done(alloc: Global, call: &Call, old: &[u8]) -> Result<Vec<u8>, AllocError>
-    ensures { IfOk result (λ new. new.items ≡ part_after call.now old.now) }
+// Does a call. Only memory can fail, and then the content stays.
+#[tactic(auto, using(crate::proofs::Ranges::part_kept))]
+pub fn apply(content: &mut Content, call: &Call) -> Result<(), AllocError>
+    ensures ok { OnOk result (content.new ≡ one_after call.now content.old) }
+    ensures err { OnErr result (content.new ≡ content.old) }
 {
     match call {
-        Call::Write(_, at, bytes) => written(alloc, old, *at as usize, bytes.as_slice()),
-        Call::Cut(_, length) => Vec::from_slice(alloc, front(old, *length as usize)),
-        Call::Sync(_) => Vec::from_slice(alloc, old),
-    }
-}
-
-// The file's bytes after a stop within the call, with these bytes in the range that it leaves open.
-pub fn half_done(alloc: Global, call: &Call, old: &[u8], torn: &[u8]) -> Result<Vec<u8>, AllocError>
-    ensures { IfOk result (λ new. new.items ≡ part_torn call.now torn.now old.now) }
-{
-    match call {
-        Call::Write(_, at, bytes) => {
-            written(
-                alloc,
-                old,
-                *at as usize,
-                front(torn, bytes.as_slice().len()),
-            )
+        Call::Write(file, at, bytes) => content.write(*file, *at as usize, bytes.as_slice()),
+        Call::Cut(file, length) => {
+            content.cut(*file, *length as usize);
+            Ok(())
         }
-        Call::Cut(_, length) => cut_off(alloc, old, *length as usize, torn),
-        Call::Sync(_) => Vec::from_slice(alloc, old),
+        Call::Sync(_) => Ok(()),
     }
 }
 
-// The bytes after a write.
-fn written(alloc: Global, old: &[u8], at: usize, bytes: &[u8]) -> Result<Vec<u8>, AllocError>
-    ensures { IfOk result (λ new. new.items ≡ put at bytes.now old.now) }
+// Does a part of a call, and leaves these bytes in the range that a stop within it leaves open.
+#[tactic(auto, using(crate::proofs::Ranges::part_kept))]
+pub fn apply_torn(content: &mut Content, call: &Call, torn: &[u8]) -> Result<(), AllocError>
+    ensures { OnOk result (content.new ≡ one_torn call.now torn.now content.old) }
 {
-    let before = front(old, at);
-    let mut new = Vec::from_slice(alloc, before)?;
-    new.extend_from_slice(bytes)?;
-    if before.len() + bytes.len() < old.len() {
-        new.extend_from_slice(&old[before.len() + bytes.len()..])?;
+    match call {
+        Call::Write(file, at, bytes) => {
+            let torn = front(torn, bytes.as_slice().len());
+            content.write(*file, *at as usize, torn)
+        }
+        Call::Cut(file, length) => content.tear(*file, *length as usize, torn),
+        Call::Sync(_) => Ok(()),
     }
-    Ok(new)
-}
-
-// The bytes after a cut that leaves others past its length.
-fn cut_off(alloc: Global, old: &[u8], most: usize, torn: &[u8]) -> Result<Vec<u8>, AllocError>
-    ensures { IfOk result (λ new. new.items ≡ take most old.now ++ take (length old.now - most) torn.now) }
-{
-    let before = front(old, most);
-    let mut new = Vec::from_slice(alloc, before)?;
-    new.extend_from_slice(front(torn, old.len() - before.len()))?;
-    Ok(new)
-}
-
-// The first `most` bytes.
-fn front(bytes: &[u8], most: usize) -> &[u8]
-    ensures { result.now ≡ take most bytes.now }
-{
-    &bytes[..bytes.len().min(most)]
 }

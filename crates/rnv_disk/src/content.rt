@@ -1,5 +1,5 @@
-ghost use Rattle.std.specs.Prelude.{◌≡◌};
-ghost use Rattle.rnv_disk.specs.Images.{part, with_part};
+ghost use Rattle.std.specs.Prelude.{◌≡◌, ◌++◌, ◌-◌, length, take, OnOk, OnErr};
+ghost use Rattle.rnv_disk.specs.Images.{part, put, with_part};
 
 use crate::FileNo;
 use rnv_base::Share;
@@ -39,15 +39,66 @@ impl Content {
         }
     }
 
-    /// Gives a file these bytes in place of its own.
-    pub fn set(&mut self, file: FileNo, bytes: Vec<u8>)
-        ensures { self.new ≡ with_part file bytes.items self.old }
+    /// Writes bytes over a file's from an offset on, and past the end; from its end on where the
+    /// offset is beyond. Only memory can fail, and then nothing changes.
+    pub(crate) fn write(&mut self, file: FileNo, at: usize, bytes: &[u8]) -> Result<(), AllocError>
+        ensures ok { OnOk result (self.new ≡ with_part file (put at bytes.now (part file self.old)) self.old) }
+        ensures err { OnErr result (self.new ≡ self.old) }
     {
         match file {
-            FileNo::Zero => self.zero = bytes,
-            FileNo::One => self.one = bytes,
+            FileNo::Zero => put(&mut self.zero, at, bytes),
+            FileNo::One => put(&mut self.one, at, bytes),
         }
     }
+
+    /// Cuts a file to a length; one that is shorter stays.
+    pub(crate) fn cut(&mut self, file: FileNo, most: usize)
+        ensures { self.new ≡ with_part file (take most (part file self.old)) self.old }
+    {
+        match file {
+            FileNo::Zero => self.zero.truncate(most),
+            FileNo::One => self.one.truncate(most),
+        }
+    }
+
+    /// Cuts a file to a length, and puts these bytes past it, as far as there were any. Only memory
+    /// can fail.
+    pub(crate) fn tear(&mut self, file: FileNo, most: usize, torn: &[u8]) -> Result<(), AllocError>
+        ensures { OnOk result (self.new ≡ with_part file (take most (part file self.old) ++ take (length (part file self.old) - most) torn.now) self.old) }
+    {
+        match file {
+            FileNo::Zero => tear(&mut self.zero, most, torn),
+            FileNo::One => tear(&mut self.one, most, torn),
+        }
+    }
+}
+
+// Writes bytes over those from an offset on, and past the end. Only memory can fail.
+fn put(file: &mut Vec<u8>, at: usize, bytes: &[u8]) -> Result<(), AllocError>
+    ensures ok { OnOk result (file.new.items ≡ put at bytes.now file.old.items) }
+    ensures err { OnErr result (file.new.items ≡ file.old.items) }
+{
+    let start = at.min(file.len());
+    let over = bytes.len().min(file.len() - start);
+    file.extend_from_slice(&bytes[over..])?;
+    file[start..start + over].copy_from_slice(&bytes[..over]);
+    Ok(())
+}
+
+// Cuts bytes to a length, and puts others past it, as far as there were any.
+fn tear(file: &mut Vec<u8>, most: usize, torn: &[u8]) -> Result<(), AllocError>
+    ensures { OnOk result (file.new.items ≡ take most file.old.items ++ take (length file.old.items - most) torn.now) }
+{
+    let past = file.len().saturating_sub(most);
+    file.truncate(most);
+    file.extend_from_slice(front(torn, past))
+}
+
+/// The first `most` bytes.
+pub fn front(bytes: &[u8], most: usize) -> &[u8]
+    ensures { result.now ≡ take most bytes.now }
+{
+    &bytes[..bytes.len().min(most)]
 }
 
 impl Share for Content {

@@ -1,8 +1,8 @@
-ghost use Rattle.std.specs.Prelude.{◌≡◌, ◌≤◌, ℕ, length, take, IfOk, OnOk};
+ghost use Rattle.std.specs.Prelude.{◌≡◌, ◌≤◌, ℕ, length, take, IfOk, IsErrOf, OnOk};
 ghost use Rattle.rnv_base.specs.Causes.{FailsBy, FaultsBy};
 ghost use Rattle.rnv_disk.specs.Images.{Image, part, put, On, Torn, CutTo, Same};
 ghost use Rattle.rnv_disk.specs.Stops.{Past, LeftNow, Elapses, IsDurable};
-ghost use Rattle.rnv_disk.specs.declared.device.DiskError.TheVariants.{Failed as read_failed};
+ghost use Rattle.rnv_disk.specs.declared.device.DiskError.TheVariants.{Failed as read_failed, Memory as no_memory};
 
 use rnv_base::{Bytes, Failed};
 use std::alloc::Global;
@@ -43,11 +43,15 @@ pub trait Disk {
     /// How often a call has failed.
     ghost faults: { Self → ℕ };
 
-    /// All bytes of a file. `Failed` only where the count of faults rose.
+    /// All bytes of a file. Whatever it answers, what stops may leave stays; what a read gives stays
+    /// unless the answer is `Failed`, and then it is one of the images. `Failed` only where the
+    /// count of faults rose.
     fn read(&mut self, alloc: Global, file: FileNo) -> Result<Bytes, DiskError>
         ensures bytes { tells → IfOk result (λ b. b.bytes ≡ part file (seen self.old)) }
         ensures same { tells → OnOk result (seen self.new ≡ seen self.old) }
+        ensures memory { tells → IsErrOf result no_memory → seen self.new ≡ seen self.old }
         ensures stops { Elapses Same (past self.old) (past self.new) }
+        ensures images { (c : Image) → LeftNow (past self.old) c → LeftNow (past self.new) c }
         ensures cause { FaultsBy (faults self.old) (faults self.new) result read_failed };
 
     /// Writes bytes over those from an offset on, and past the end. The offset is at most the

@@ -3,9 +3,9 @@ ghost use Rattle.rnv_disk.specs.Images.{part, put, On, Torn, CutTo, Same};
 ghost use Rattle.rnv_disk.specs.Stops.{Elapses, IsDurable};
 ghost use Rattle.rnv_disk.specs.Course.{after, after_part, fits, seen_of, past_of, stopped_of};
 
-use crate::call::{done, half_done};
+use crate::call::{apply, apply_torn};
 use crate::{Call, Content, FileNo};
-use rnv_base::{Bytes, List, Share};
+use rnv_base::{Bytes, Share};
 use std::alloc::{AllocError, Global};
 use std::convert::AsSlice;
 use std::marker::Model;
@@ -17,7 +17,7 @@ pub struct History {
     alloc: Global,
     first: Content,
     current: Content,
-    calls: List<Call>,
+    calls: Vec<Call>,
 }
 
 impl Model for History {
@@ -26,9 +26,9 @@ impl Model for History {
 
     ghost Value = { Course };
 
-    ghost view = { λ h. record { first = h.first; calls = h.calls } };
+    ghost view = { λ h. record { first = h.first; calls = h.calls.items } };
 
-    ghost invariant = { λ h. (h.current ≡ after h.first (reverse h.calls)) × IsTrue (all_fit h.first (reverse h.calls)) };
+    ghost invariant = { λ h. (h.current ≡ after h.first (reverse h.calls.items)) × IsTrue (all_fit h.first (reverse h.calls.items)) };
 }
 
 impl History {
@@ -40,7 +40,7 @@ impl History {
             alloc,
             current: first.share(alloc)?,
             first,
-            calls: List::empty(alloc),
+            calls: Vec::new(alloc),
         })
     }
 
@@ -55,7 +55,7 @@ impl History {
     pub fn calls(&self) -> &[Call]
         ensures { result.now ≡ self.now.calls }
     {
-        self.calls.as_slice()
+        &self.calls
     }
 
     // Does a call.
@@ -64,10 +64,9 @@ impl History {
         ensures ok { OnOk result (self.new ≡ record self.old { calls = self.old.calls ++ call ∷ [] }) }
         ensures err { OnErr result (self.new ≡ self.old) }
     {
-        let file = call.file();
-        let next = done(self.alloc, &call, self.current.part(file))?;
-        self.calls.push(call)?;
-        self.current.set(file, next);
+        self.calls.reserve(1)?;
+        apply(&mut self.current, &call)?;
+        self.calls.push_reserved(call);
         Ok(())
     }
 
@@ -127,9 +126,7 @@ fn stopped_in(
 {
     let mut content = replayed(alloc, first, calls)?;
     if let [call, ..] = later {
-        let file = call.file();
-        let next = half_done(alloc, call, content.part(file), torn)?;
-        content.set(file, next);
+        apply_torn(&mut content, call, torn)?;
     }
     Ok(content)
 }
@@ -140,9 +137,7 @@ fn replayed(alloc: Global, first: &Content, calls: &[Call]) -> Result<Content, A
 {
     let mut content = first.share(alloc)?;
     for call in calls {
-        let file = call.file();
-        let next = done(alloc, call, content.part(file))?;
-        content.set(file, next);
+        apply(&mut content, call)?;
     }
     Ok(content)
 }

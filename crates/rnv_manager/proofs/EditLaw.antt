@@ -1,5 +1,5 @@
 -- The edit law, by the finds that are read back.
-use Rattle.std.proofs.Common.{◌≡◌, ℕ, suc, ◌+◌, ◌≤◌, List, [], ◌∷◌, length, refl, sym, ap, subst, ◌∙◌, inl, inr, arith}
+use Rattle.std.proofs.Common.{◌≡◌, ℕ, suc, ◌+◌, ◌≤◌, List, [], ◌∷◌, length, Result, Ok, Err, IfErr, refl, sym, ap, subst, ◌∙◌, inl, inr, arith}
 use Rattle.std.specs.Prelude.{slice_get}
 use Rattle.std.proofs.lemmas.List.{length-map}
 use Rattle.rnv_manager.specs.declared.edits.Edit.{Edit}
@@ -85,3 +85,9 @@ still-read Reads file text es ms expected whole read is are none =
 pub refused-so : (P Q : ℕ → List ℕ → List ℕ → Type 0) (e : EditError) → ((start : ℕ) (wanted found : List ℕ) → P start wanted found → Q start wanted found) → IfNotReadBack P e → IfNotReadBack Q e
 refused-so P Q (NotReadBack start wanted found) so h = so start wanted found h
 refused-so P Q Memory so h = tt
+
+-- where the law holds, only memory is left to fail
+pub memory_alone : {X : Type 0} (r : Result X EditError) (P : ℕ → List ℕ → List ℕ → Type 0) → ((start : ℕ) (wanted found : List ℕ) → ¬ P start wanted found) → IfErr r (IfNotReadBack P) → IfErr r (λ e. e ≡ Memory)
+memory_alone (Ok x) P never h = tt
+memory_alone (Err (NotReadBack start wanted found)) P never h = absurd (never start wanted found h)
+memory_alone (Err Memory) P never h = refl

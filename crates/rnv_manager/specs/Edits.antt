@@ -48,6 +48,10 @@ pub record IsReadBack (Reads : List ℕ → List Mark → Type 0) (edits : List 
   pub same_skeleton : skeleton pieces ≡ skeleton ms
   pub expected : finds_from 0 pieces ≡ expected_finds edits ms
 
+-- The law holds of each file with new values that pass the test.
+abbrev pub KeepsLaw : (List ℕ → List Mark → Type 0) → (List ℕ → Bool) → Type 0
+KeepsLaw Reads fits = (file : List ℕ) (ms : List Mark) (edits : List Edit) → Reads file ms → AreIndexes 0 edits (length (finds_from 0 ms)) → AllFit fits edits → IsReadBack Reads edits ms
+
 -- ---- where it fails
 
 -- The finds of a file: those of a reading, and none where it has no reading.

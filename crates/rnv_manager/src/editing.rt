@@ -1,4 +1,5 @@
 ghost use Rattle.std.specs.Prelude.{◌≡◌, ℕ, List as Items, length, IfOk, IfErr};
+ghost use Rattle.rnv_manager.specs.declared.edits.EditError.TheVariants.{Memory};
 ghost use Rattle.rnv_manager.specs.Marks.{Mark, finds_from};
 ghost use Rattle.rnv_manager.specs.Edits.{AreIndexes, edited_file, IsReadBack, IsNotReadBack, IfNotReadBack};
 
@@ -12,7 +13,8 @@ use std::convert::AsSlice;
 
 /// The file with the new values of these finds. The manager reads the file, and the indexes rise and
 /// are below the number of its finds. `NotReadBack` exactly where the manager would not read the
-/// edited file as the same pieces with the new values. Else only memory can fail.
+/// edited file as the same pieces with the new values, so never where the edit law holds of these edits.
+/// Else only memory can fail.
 pub fn edit<'a, M: Manager>(
     alloc: Global,
     manager: &'a M,
@@ -25,6 +27,7 @@ pub fn edit<'a, M: Manager>(
         → (b.bytes ≡ edited_file edits.now ms) × IsReadBack (M.reads manager.now) edits.now ms) }
     ensures not_read_back { IfErr result (IfNotReadBack (λ start wanted found. (ms : Items Mark) → M.reads manager.now file.now ms
         → IsNotReadBack (M.reads manager.now) edits.now ms start wanted found)) }
+    ensures kept { ((ms : Items Mark) → M.reads manager.now file.now ms → IsReadBack (M.reads manager.now) edits.now ms) → IfErr result (λ e. e ≡ Memory) }
 {
     let found = match manager.extract(alloc, file) {
         Ok(found) => found,

@@ -1,20 +1,31 @@
-ghost use Rattle.std.specs.Prelude.{◌≡◌, ℕ, List as Items, length, IfOk, IfErr};
+ghost use Rattle.std.specs.Prelude.{◌≡◌, ℕ, List as Items, length, IfOk, IfErr, IsTrue};
 ghost use Rattle.rnv_manager.specs.declared.edits.Edit.{Edit};
 ghost use Rattle.rnv_manager.specs.declared.edits.EditError.TheVariants.{Memory};
 ghost use Rattle.rnv_manager.specs.Marks.{Mark, finds_from};
-ghost use Rattle.rnv_manager.specs.Edits.{AreIndexes, AllFit, edited_file, IsReadBack};
+ghost use Rattle.rnv_base.specs.Values.{is_quotable};
+ghost use Rattle.rnv_manager.specs.Edits.{AreIndexes, AllFit, KeepsLaw, edited_file, IsReadBack, IsNotReadBack};
 
 use crate::{Edit, EditError, Manager, edit};
 use rnv_base::{Bytes, List};
 use std::alloc::Global;
 
 /// A manager for which the edit law holds: each file that it reads, with new values that fit, is read
-/// as the same pieces with these values.
+/// as the same pieces with these values. Every quotable text fits.
 pub trait KeepsEdits: Manager {
-    /// Does nothing: its promise is the law.
+    /// Does nothing: its promise is the law, and that quotable texts fit.
     fn keeps_edits(&self)
-        ensures { (file : Items ℕ) (ms : Items Mark) (edits : Items Edit) → Self.reads self.now file ms
-            → AreIndexes 0 edits (length (finds_from 0 ms)) → AllFit (Self.is_fit self.now) edits → IsReadBack (Self.reads self.now) edits ms };
+        ensures law { KeepsLaw (Self.reads self.now) (Self.is_fit self.now) }
+        ensures quotable { (value : Items ℕ) → IsTrue (is_quotable value) → IsTrue (Self.is_fit self.now value) };
+}
+
+/// Does nothing: its promise is that a manager for which the edit law holds reads back each file that it
+/// reads with new values that are quotable. So `edit` never answers `NotReadBack` there.
+pub fn quotable_edits<M: KeepsEdits>(manager: &M)
+    ensures law { KeepsLaw (M.reads manager.now) is_quotable }
+    ensures never { (file : Items ℕ) (ms : Items Mark) (edits : Items Edit) (start : ℕ) (wanted found : Items ℕ) → M.reads manager.now file ms
+        → AreIndexes 0 edits (length (finds_from 0 ms)) → AllFit is_quotable edits → ¬ IsNotReadBack (M.reads manager.now) edits ms start wanted found }
+{
+    manager.keeps_edits();
 }
 
 /// `edit` by a manager for which the edit law holds, of values that fit: only memory can fail.

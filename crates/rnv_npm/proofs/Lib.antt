@@ -1,4 +1,3 @@
-mod Calm
 pub mod Versions
 pub mod Spaces
 pub mod Unspaced
@@ -6,7 +5,6 @@ pub mod Exacts
 pub mod PartNumbers
 pub mod WildParts
 pub mod ShortParts
-pub mod VersionBytes
 pub mod PartialReads
 pub mod Listing
 pub mod PartialGrammar
@@ -26,3 +24,4 @@ pub mod PlainTerms
 pub mod PlainParts
 pub mod NewTexts
 pub mod Refusals
+pub mod ExactTexts

@@ -4,12 +4,15 @@ ghost use Rattle.std.specs.Prelude.{◌≡◌, ◌++◌, IfOk, OnOk, None, map};
 ghost use Rattle.rnv_npm.specs.Ranges.{hyphen_of, listed, npm_range, read_set, set_of, sets_of, words_of};
 ghost use Rattle.rnv_npm.specs.Comparators.{every};
 ghost use Rattle.rnv_npm.specs.Reading.{Reads};
+ghost use Rattle.rnv_npm.specs.Numbering.{signed_word};
+ghost use Rattle.rnv_version.specs.Plain.{is_letter_v, past_one};
 
 use crate::comparator::Comparator;
 use crate::meaning::{Meaning, comparators_of, every};
+use crate::partial::past_letter;
 use crate::pieces::pieces;
 use crate::sign::{Sign, signed};
-use rnv_base::List;
+use rnv_base::{List, Text};
 use rnv_version::RangeError;
 use std::alloc::{AllocError, Global};
 use std::convert::AsSlice;
@@ -135,4 +138,23 @@ pub(crate) fn read_sets(alloc: Global, text: &str) -> Result<List<List<Comparato
 {
     let pieces = pieces(alloc, text, '|')?;
     sets_of(alloc, pieces.as_slice())
+}
+
+// A version behind its operator, which may be a word by itself.
+fn signed_word<'a>(words: &[&'a str]) -> &'a str
+    ensures { result.now ≡ signed_word (map (λ r. r.now) words.now) }
+{
+    match words {
+        [word] => signed(word).1,
+        [_, word] => word,
+        _ => "",
+    }
+}
+
+// The version of an exact value, without spaces, operator and `v`. Only memory can fail.
+pub(crate) fn exact_word(alloc: Global, value: &str) -> Result<Text, AllocError>
+    ensures { IfOk result (λ t. t ≡ past_one is_letter_v (signed_word (words_of value.now))) }
+{
+    let words = words_of(alloc, value)?;
+    Text::copied(alloc, past_letter(signed_word(words.as_slice())))
 }

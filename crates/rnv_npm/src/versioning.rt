@@ -1,21 +1,22 @@
 ghost use Rattle.std.specs.Prelude.{◌≡◌, List, true, Some, None, IfOk, IsErrOf, MatchOption};
-ghost use Rattle.rnv_version.specs.SemVer.{Version, first_numbers, has_no_pre, version_cmp, version_total};
-ghost use Rattle.rnv_version.specs.Kind as kinds;
-ghost use Rattle.rnv_npm.specs.Version.{HoldsText, IsVersion, npm_version, unmarked};
+ghost use Rattle.rnv_version.specs.SemVer.{HoldsText, Version, version_total};
+ghost use Rattle.rnv_npm.specs.Version.{IsVersion, npm_version, unmarked};
 ghost use Rattle.rnv_npm.specs.Exact.{Exact, IsExact, exact_of, renumbered, new_text};
-ghost use Rattle.rnv_npm.specs.Ranges.{npm_range, is_satisfied, is_exact};
+ghost use Rattle.rnv_npm.specs.Ranges.{npm_range};
+ghost use Rattle.rnv_npm.specs.Numbering.{npm};
 ghost use Rattle.rnv_npm.specs.Comparators.{Comparator};
 ghost use Rattle.rnv_npm.specs.Grammar.{IsRange};
-ghost use Rattle.rnv_npm.specs.NewTexts.{npm_new_text};
 
 use crate::exact::{read_exact, with_version};
 use crate::new_value::new_text;
 use crate::read::{plain_version, unmarked};
+use crate::reading::exact_word;
 use crate::{ExactValue, NpmVersion, Range};
 use rnv_base::{Strategy, Text, UpdateKind};
-use rnv_version::{Numbers, RangeError, VersionError, Versioning, kind_between};
+use rnv_version::{Numbers, RangeError, VersionError, Versioning, kind_between, named_text};
 use std::alloc::{AllocError, Global};
 use std::cmp::Ordering;
+use std::convert::AsStr;
 
 /// How npm reads, compares and writes versions, and the ranges that package.json states, after
 /// node-semver.
@@ -55,25 +56,7 @@ impl Versioning for NpmVersioning {
 
     type Range = Range;
 
-    ghost version_of = { λ m text. npm_version text };
-
-    ghost range_of = { λ m text. npm_range text };
-
-    ghost order = { λ m. version_cmp };
-
-    ghost are_comparable = { λ m a b. true };
-
-    ghost is_satisfied = { λ m range version. is_satisfied range version };
-
-    ghost is_exact = { λ m range. is_exact range };
-
-    ghost is_stable = { λ m version. has_no_pre version };
-
-    ghost kind_between = { λ m from to. kinds.kind_between (first_numbers from) (first_numbers to) };
-
-    ghost numbers_of = { λ m version. first_numbers version };
-
-    ghost new_text = { λ m strategy value version. npm_new_text strategy value version };
+    ghost numbering = { λ m. npm };
 
     /// The version that a text is: SemVer 2.0.0 after at most one `v` or `=`, with three numbers of
     /// at most 9007199254740991. `NotAVersion` only for other texts, and for all of them where no
@@ -130,24 +113,40 @@ impl Versioning for NpmVersioning {
         }
     }
 
-    fn new_value(
+    fn rewritten(
         &self,
         alloc: Global,
         strategy: Strategy,
         value: &str,
-        version: &str,
+        range: &Range,
+        _text: &str,
+        version: &NpmVersion,
     ) -> Result<Option<Text>, AllocError> {
-        let range = match Range::read(alloc, value) {
-            Ok(range) => range,
-            Err(RangeError::NotARange) => unreachable!(),
-            Err(RangeError::Memory) => return Err(AllocError),
+        new_text(alloc, strategy, value, range, version)
+    }
+
+    fn exact_text(
+        &self,
+        alloc: Global,
+        value: &str,
+        range: &Range,
+    ) -> Result<Option<Text>, AllocError> {
+        if range.is_exact() {
+            Ok(Some(exact_word(alloc, value)?))
+        } else {
+            Ok(None)
+        }
+    }
+
+    fn bump_start(&self, alloc: Global, value: &str) -> Result<Option<NpmVersion>, AllocError> {
+        let Some(text) = named_text(alloc, value)? else {
+            return Ok(None);
         };
-        let version = match self.version(alloc, version) {
-            Ok(version) => version,
-            Err(VersionError::NotAVersion) => unreachable!(),
-            Err(VersionError::Memory) => return Err(AllocError),
-        };
-        new_text(alloc, strategy, value, &range, &version)
+        match self.version(alloc, text.as_str()) {
+            Ok(version) => Ok(Some(version)),
+            Err(VersionError::NotAVersion) => Ok(None),
+            Err(VersionError::Memory) => Err(AllocError),
+        }
     }
 
     fn keeps_laws(&self) {}

@@ -9,7 +9,7 @@ use Rattle.rnv_manager.specs.Marks.{Mark}
 use Rattle.rnv_manager.specs.Edits.{AllFit, edited, IsReadBack}
 use Rattle.rnv_manager.proofs.Kept.{IsNew, AreEdited, Splits, splits-byte, splits-bytes, nothing_more, are-edited, law-holds}
 use Rattle.rnv_package_json.specs.declared.value.Kind.{Kind}
-use Rattle.rnv_package_json.specs.Fits.{fits_byte, fits}
+use Rattle.rnv_base.specs.Values.{is_quotable_byte, is_quotable}
 use Rattle.rnv_package_json.specs.Roles.{Standing, top, among, entry, other, is_clean, slot}
 use Rattle.rnv_package_json.specs.Grammar as g
 use Rattle.rnv_package_json.specs.Grammar.{close, IsRead}
@@ -153,15 +153,15 @@ mutual
         edited = six.edited;
       }
 
-fit_byte : (x : ℕ) → fits_byte x ≡ true → (nat_le 32 x ≡ true) × (nat_eq x 34 ≡ false) × (nat_eq x 92 ≡ false) × (nat_eq x 127 ≡ false)
-fit_byte x e = (grind (arith, nat_tests), grind (arith, nat_tests), grind (arith, nat_tests), grind (arith, nat_tests))
+quotable_byte : (x : ℕ) → is_quotable_byte x ≡ true → (nat_le 32 x ≡ true) × (nat_eq x 34 ≡ false) × (nat_eq x 92 ≡ false) × (nat_eq x 127 ≡ false)
+quotable_byte x e = (grind (arith, nat_tests), grind (arith, nat_tests), grind (arith, nat_tests), grind (arith, nat_tests))
 
-fits-free : (s : List ℕ) → fits s ≡ true → IsFree s
-fits-free [] e = record { clean = refl; inside = refl }
-fits-free (x ∷ xs) e =
-    let both = and_true (fits_byte x) (fits xs) e in
-    let b = fit_byte x both.0 in
-    let more = fits-free xs both.1 in
+quotable-free : (s : List ℕ) → is_quotable s ≡ true → IsFree s
+quotable-free [] e = record { clean = refl; inside = refl }
+quotable-free (x ∷ xs) e =
+    let both = and_true (is_quotable_byte x) (is_quotable xs) e in
+    let b = quotable_byte x both.0 in
+    let more = quotable-free xs both.1 in
     record { clean = rw (b.0, b.2, b.3) more.clean; inside = rw (b.1, b.2, b.0) more.inside }
 
 edits-read : (file : List ℕ) (ms ns : List Mark) → IsRead file ms → AreEdited IsFree ms ns → IsRead (m.text_of ns) ns
@@ -184,5 +184,5 @@ edits-read file ms ns r e =
     }
 
 -- the edit law, for every list of edits that fit
-pub edits-kept : (file : List ℕ) (ms : List Mark) (edits : List Edit) → IsRead file ms → AllFit fits edits → IsReadBack IsRead edits ms
-edits-kept file ms edits r h = law-holds IsRead edits ms (edits-read file ms (edited edits 0 ms) r (are-edited fits IsFree fits-free edits 0 ms h))
+pub edits-kept : (file : List ℕ) (ms : List Mark) (edits : List Edit) → IsRead file ms → AllFit is_quotable edits → IsReadBack IsRead edits ms
+edits-kept file ms edits r h = law-holds IsRead edits ms (edits-read file ms (edited edits 0 ms) r (are-edited is_quotable IsFree quotable-free edits 0 ms h))

@@ -1,4 +1,3 @@
-pub mod Fits
 pub mod Grammar
 pub mod Read
 pub mod Rest

@@ -1,7 +1,6 @@
 //! The dependencies in a `package.json`, read as one JSON object (RFC 8259).
 #![tactic(auto)]
 
-mod fitting;
 mod manager;
 mod role;
 #[cfg(test)]

@@ -1,15 +1,14 @@
 ghost use Rattle.std.specs.Prelude.{◌≡◌};
 ghost use Rattle.rnv_manager.specs.Finds.{views, GivesFinds};
-ghost use Rattle.rnv_package_json.specs.Fits.{fits};
+ghost use Rattle.rnv_base.specs.Values.{is_quotable};
 ghost use Rattle.rnv_package_json.specs.Grammar.{IsRead};
 ghost use Rattle.rnv_package_json.specs.Read.{file as read_file};
 
-use crate::fitting::fits;
 use crate::role::Role;
 use crate::text::{after_gap, expect};
 use crate::value::{Kind, group};
 use rnv_base::List;
-use rnv_manager::{ExtractError, Found, KeepsEdits, Manager};
+use rnv_manager::{ExtractError, Found, KeepsEdits, Manager, is_quotable};
 use std::alloc::Global;
 
 // So deep the values in the top object may nest; with that object it is 127.
@@ -48,7 +47,7 @@ fn read<'a>(alloc: Global, file: &'a str) -> Result<List<Found<'a>>, ExtractErro
 impl Manager for NpmManager {
     ghost reads = { λ m file ms. IsRead file ms };
 
-    ghost is_fit = { λ m value. fits value };
+    ghost is_fit = { λ m value. is_quotable value };
 
     fn extract<'a>(
         &'a self,
@@ -59,7 +58,7 @@ impl Manager for NpmManager {
     }
 
     fn fits(&self, value: &str) -> bool {
-        fits(value)
+        is_quotable(value)
     }
 
     ghost whole = { λ m file ms h. h.whole };

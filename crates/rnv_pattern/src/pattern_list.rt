@@ -1,7 +1,11 @@
-ghost use Rattle.std.specs.Prelude.{◌≡◌, ◌↔◌, IsTrue, IsOk, IfOk, OnOk, IsErrOf, All, map};
-ghost use Rattle.rnv_pattern.specs.Patterns.{AreAllExpressions, ArePatterns, FirstIs, HasPositive, IsBadGlob, IsGlobPattern, MatchesList, RefusedIn, SomeHolds, TookMore, rule_text};
-ghost use Rattle.rnv_pattern.specs.declared.error.PatternError.TheVariants.{BadGlob, BadExpression};
+ghost use Rattle.std.specs.Prelude.{◌≡◌, ◌↔◌, ◌==◌, ℕ, Bool, List as Items, [], IsTrue, IsOk, IfOk, OnOk, IsErrOf, All, map, length};
+ghost use Rattle.std.specs.List.{list_all};
+ghost use Rattle.rnv_pattern.specs.Meaning.{is_pattern, matches_list};
+ghost use Rattle.rnv_pattern.specs.Patterns.{AreAllExpressions, ArePatterns, FirstIs, HasPositive, IsBadGlob, IsGlobPattern, MatchesList, RefusedIn, SomeHolds, TookFront, TookMore, rule_text};
+ghost use Rattle.rnv_pattern.specs.Turns.{Agrees, Asks, TellsTest};
+ghost use Rattle.rnv_pattern.specs.declared.error.PatternError.TheVariants.{BadGlob, BadExpression, Memory};
 
+use crate::matcher::ListMatcher;
 use crate::pattern::Pattern;
 use crate::{Builder, PatternError};
 use rnv_base::{List, Share};
@@ -36,8 +40,9 @@ fn read_each<E: Builder, T: AsStr>(
 ) -> Result<List<Pattern>, PatternError>
     ensures read { IfOk result (λ list. ArePatterns (map T.text texts.now) list) }
     ensures took { OnOk result (TookMore (AreAllExpressions (map T.text texts.now)) (E.took engines.old) (E.took engines.new)) }
-    ensures bad_glob { IsErrOf result BadGlob → FirstIs (λ text. IsBadGlob (rule_text text)) (map T.text texts.now) }
-    ensures bad_expression { IsErrOf result BadExpression → FirstIs (λ text. RefusedIn (rule_text text) (E.refused engines.old) (E.refused engines.new)) (map T.text texts.now) }
+    ensures bad_glob { IsErrOf result BadGlob → FirstIs (λ text. IsBadGlob (rule_text text)) (map T.text texts.now) (E.took engines.old) (E.took engines.new) }
+    ensures bad_expression { IsErrOf result BadExpression → FirstIs (λ text. RefusedIn (rule_text text) (E.refused engines.old) (E.refused engines.new)) (map T.text texts.now) (E.took engines.old) (E.took engines.new) }
+    ensures memory { IsErrOf result Memory → TookFront (map T.text texts.now) (E.took engines.old) (E.took engines.new) }
     ensures unrefused { ¬ IsErrOf result BadExpression → E.refused engines.new ≡ E.refused engines.old }
     ensures others { E.others engines.new ≡ E.others engines.old }
 {
@@ -70,7 +75,7 @@ fn some_holds(
 }
 
 // Whether one is not negated.
-fn has_positive(patterns: &[Pattern]) -> bool
+pub(crate) fn has_positive(patterns: &[Pattern]) -> bool
     ensures { IsTrue result ↔ HasPositive patterns.now }
 {
     for pattern in patterns {
@@ -97,17 +102,30 @@ fn list_matches(alloc: Global, patterns: &[Pattern], text: &str) -> Result<bool,
 }
 
 impl PatternList {
+    /// A list without patterns. Takes no memory.
+    pub fn empty(alloc: Global) -> PatternList
+        ensures { result ≡ [] }
+    {
+        PatternList {
+            patterns: List::empty(alloc),
+        }
+    }
+
     /// Reads each text as a pattern. It is refused for the first text that is none: `BadGlob` and
-    /// `BadExpression` as for one pattern.
+    /// `BadExpression` as for one pattern, and the engines took the expressions of the texts before it, no
+    /// more; at `Memory` they took those of the first texts.
     pub fn read<E: Builder, T: AsStr>(
         alloc: Global,
         engines: &mut E,
         texts: &[T],
     ) -> Result<PatternList, PatternError>
         ensures read { IfOk result (λ list. ArePatterns (map T.text texts.now) list) }
+        ensures asks { Asks (E.refused engines.old) (E.took engines.old) (E.others engines.old) (E.refused engines.new) (E.took engines.new) (E.others engines.new) }
+        ensures tells { (wrong : Items ℕ → Bool) → Agrees wrong (E.refused engines.old) (E.took engines.old) (E.refused engines.new) (E.took engines.new) → TellsTest result (list_all (is_pattern wrong) (map T.text texts.now)) }
         ensures took { OnOk result (TookMore (AreAllExpressions (map T.text texts.now)) (E.took engines.old) (E.took engines.new)) }
-        ensures bad_glob { IsErrOf result BadGlob → FirstIs (λ text. IsBadGlob (rule_text text)) (map T.text texts.now) }
-        ensures bad_expression { IsErrOf result BadExpression → FirstIs (λ text. RefusedIn (rule_text text) (E.refused engines.old) (E.refused engines.new)) (map T.text texts.now) }
+        ensures bad_glob { IsErrOf result BadGlob → FirstIs (λ text. IsBadGlob (rule_text text)) (map T.text texts.now) (E.took engines.old) (E.took engines.new) }
+        ensures bad_expression { IsErrOf result BadExpression → FirstIs (λ text. RefusedIn (rule_text text) (E.refused engines.old) (E.refused engines.new)) (map T.text texts.now) (E.took engines.old) (E.took engines.new) }
+        ensures memory { IsErrOf result Memory → TookFront (map T.text texts.now) (E.took engines.old) (E.took engines.new) }
         ensures unrefused { ¬ IsErrOf result BadExpression → E.refused engines.new ≡ E.refused engines.old }
         ensures others { E.others engines.new ≡ E.others engines.old }
     {
@@ -117,10 +135,25 @@ impl PatternList {
         }
     }
 
+    /// Whether there is no pattern.
+    pub fn is_empty(&self) -> bool
+        ensures { result ≡ (length self.now == 0) }
+    {
+        self.patterns.len() == 0
+    }
+
+    /// What tries the list on many texts. Only memory can fail.
+    pub fn matcher(&self, alloc: Global) -> Result<ListMatcher<'_>, AllocError>
+        ensures { IfOk result (λ matcher. matcher ≡ self.now) }
+    {
+        ListMatcher::of(alloc, self.patterns.as_slice())
+    }
+
     /// Whether some pattern that is not negated matches the text, or there is none, and no negated one
     /// matches. Takes no memory where all are globs.
     pub fn matches(&self, alloc: Global, text: &str) -> Result<bool, AllocError>
         ensures matches { IfOk result (λ yes. IsTrue yes ↔ MatchesList self.now text.now) }
+        ensures test { IfOk result (λ yes. yes ≡ matches_list self.now text.now) }
         ensures globs { All IsGlobPattern self.now → IsOk result }
     {
         list_matches(alloc, self.patterns.as_slice(), text)

@@ -23,7 +23,8 @@ use Rattle.rnv_plan.specs.declared.inputs.PickedFile.{PickedFile}
 use Rattle.rnv_plan.specs.declared.inputs.Planned.{Planned}
 use Rattle.rnv_plan.specs.declared.item.Item.{Item}
 use Rattle.rnv_plan.specs.declared.taken.TakenFile.{TakenFile}
-use Rattle.rnv_plan.specs.Gather.{IsGathered, ArePicked, releases_for, updates_in}
+use Rattle.rnv_plan.specs.Gather.{IsGathered, ArePicked, releases_for}
+use Rattle.rnv_plan.specs.Kept.{kept_updates}
 use Rattle.rnv_plan.specs.Refusal.{IsRefusal}
 use Rattle.rnv_plan.specs.Plan.{unchanged, IsFolderBase, IsGatheredOf, IsFolderRefusal, large, unknown, of_files, AreFewItems, HaveManyItems, IsPlanned, IsPlanRefusal, not_gathered, many_items}
 use Rattle.rnv_plan.proofs.OneList.{items_are_unique}
@@ -99,10 +100,10 @@ module _ (repo : List ℕ) (files : List NamedFile) where
       refusal-one files other e f (subst (λ (fs : List MarkedFile). IsRefusal files fs e) (base-one repo files base other a b) refused) refused'
 
   -- what is gathered is refused nowhere
-  pub folder-fine : (planned : Planned) → IsGatheredOf repo files planned → (e : RunError) → ¬ (IsFolderRefusal repo files e)
-  folder-fine planned g e (large which number wrong same) = large-base planned.files which number g.base wrong
-  folder-fine planned g e (unknown wrong same) = unknown-base planned.files g.base wrong
-  folder-fine planned g e (of_files base b refused) =
+  pub folder-fine : (moment : ℕ) (planned : Planned) → IsGatheredOf repo moment files planned → (e : RunError) → ¬ (IsFolderRefusal repo files e)
+  folder-fine moment planned g e (large which number wrong same) = large-base planned.files which number g.base wrong
+  folder-fine moment planned g e (unknown wrong same) = unknown-base planned.files g.base wrong
+  folder-fine moment planned g e (of_files base b refused) =
       gathered-fine files planned.files planned.inputs.picked g.gathered e (subst (λ (fs : List MarkedFile). IsRefusal files fs e) (base-one repo files base planned.files b g.base) refused)
 
   -- ---- one plan
@@ -111,24 +112,24 @@ module _ (repo : List ℕ) (files : List NamedFile) where
   picked-of base ps qs a b =
       picked-one (releases_for files) b.taken ps qs (subst (λ (ts : List TakenFile). ArePicked (releases_for files) ts ps) (taken-one base a.taken b.taken a.built.few.read b.built.few.read) a.each) b.each
 
-  gathered-one : (p q : Planned) → IsGatheredOf repo files p → IsGatheredOf repo files q → p.inputs.picked ≡ q.inputs.picked
-  gathered-one p q a b = picked-of q.files p.inputs.picked q.inputs.picked (subst (λ (fs : List MarkedFile). IsGathered files fs p.inputs.picked) (base-one repo files p.files q.files a.base b.base) a.gathered) b.gathered
+  gathered-one : (moment : ℕ) (p q : Planned) → IsGatheredOf repo moment files p → IsGatheredOf repo moment files q → p.inputs.picked ≡ q.inputs.picked
+  gathered-one moment p q a b = picked-of q.files p.inputs.picked q.inputs.picked (subst (λ (fs : List MarkedFile). IsGathered files fs p.inputs.picked) (base-one repo files p.files q.files a.base b.base) a.gathered) b.gathered
 
   few-many : (updates : List Update) (items : List Item) (e : RunError) → AreFewItems updates items → ¬ (HaveManyItems updates e)
   few-many updates items e few many =
       let same = ap length (items_are_unique updates items many.items few.are_items many.are_items) in
       omega (arith, same, few.few, many.many)
 
-  pub plan-fine : (items : List Item) → IsPlanned repo files items → (e : RunError) → ¬ (IsPlanRefusal repo files e)
-  plan-fine items p e (not_gathered refused) = folder-fine p.planned p.gathered e refused
-  plan-fine items p e (many_items planned gathered many) =
-      few-many (updates_in planned.inputs.picked) items e (subst (λ (ps : List PickedFile). AreFewItems (updates_in ps) items) (gathered-one p.planned planned p.gathered gathered) p.few) many
+  pub plan-fine : (moment : ℕ) (items : List Item) → IsPlanned repo moment files items → (e : RunError) → ¬ (IsPlanRefusal repo moment files e)
+  plan-fine moment items p e (not_gathered refused) = folder-fine moment p.planned p.gathered e refused
+  plan-fine moment items p e (many_items planned gathered many) =
+      few-many (kept_updates planned.inputs.picked) items e (subst (λ (ps : List PickedFile). AreFewItems (kept_updates ps) items) (gathered-one moment p.planned planned p.gathered gathered) p.few) many
 
-  pub plan-one : (e f : RunError) → IsPlanRefusal repo files e → IsPlanRefusal repo files f → e ≡ f
-  plan-one e f (not_gathered a) (not_gathered b) = folder-one e f a b
-  plan-one e f (not_gathered a) (many_items planned gathered many) = absurd (folder-fine planned gathered e a)
-  plan-one e f (many_items planned gathered many) (not_gathered b) = absurd (folder-fine planned gathered f b)
-  plan-one e f (many_items planned gathered many) (many_items planned' gathered' many') = many.same ∙ sym many'.same
+  pub plan-one : (moment : ℕ) (e f : RunError) → IsPlanRefusal repo moment files e → IsPlanRefusal repo moment files f → e ≡ f
+  plan-one moment e f (not_gathered a) (not_gathered b) = folder-one e f a b
+  plan-one moment e f (not_gathered a) (many_items planned gathered many) = absurd (folder-fine moment planned gathered e a)
+  plan-one moment e f (many_items planned gathered many) (not_gathered b) = absurd (folder-fine moment planned gathered f b)
+  plan-one moment e f (many_items planned gathered many) (many_items planned' gathered' many') = many.same ∙ sym many'.same
 
 -- ---- the files of a folder stand by path
 

@@ -10,11 +10,12 @@ use Rattle.rnv_base.specs.declared.kinds.ManagerKind.TheVariants.{Cargo, Npm, Do
 use Rattle.rnv_forge.specs.Files.{MarkedFile}
 use Rattle.rnv_manager.specs.declared.found.Found.{Found}
 use Rattle.rnv_manager.specs.Finds.{Find, view, views}
-use Rattle.rnv_manager.specs.Marks.{finds_from}
+use Rattle.rnv_manager.specs.Marks.{Mark, finds_from}
 use Rattle.rnv_package_json.specs.Read.{file}
 use Rattle.rnv_package_json.proofs.Whole.{file-again, file-takes}
 use Rattle.rnv_pick.specs.declared.dep.Dep.{Dep}
-use Rattle.rnv_plan.specs.Taken.{AreFinds, AreDeps, dep_of}
+use Rattle.rnv_plan.specs.Managers.{IsReadBy}
+use Rattle.rnv_plan.specs.Taken.{AreFinds, AreDeps, dep_of, is_npm}
 
 pub deps-one_more : (path : List ℕ) (found : List Found) (i : ℕ) (d : Found) (deps more : List Dep) (dep : Dep) → i < length found → deps ≡ map (dep_of path Npm) (views (take i found)) → dep ≡ dep_of path Npm (view (get_or found i d)) → more ≡ deps ++ dep ∷ [] → more ≡ map (dep_of path Npm) (views (take (i + 1) found))
 deps-one_more path found i d deps more dep within so_far here pushed =
@@ -43,24 +44,32 @@ some-npm bytes = elim (cases_Bool (is_utf8 bytes)) [
 ]
 
 pub some-finds : (m : ManagerKind) (bytes : List ℕ) → (finds : List Find) × AreFinds m bytes finds
-some-finds Cargo bytes = ([], refl)
+some-finds Cargo bytes = ([], inr (record { unread = λ u ms read. read; same = refl }))
 some-finds Npm bytes = some-npm bytes
-some-finds Dockerfile bytes = ([], refl)
-some-finds Regex bytes = ([], refl)
+some-finds Dockerfile bytes = ([], inr (record { unread = λ u ms read. read; same = refl }))
+some-finds Regex bytes = ([], inr (record { unread = λ u ms read. read; same = refl }))
+
+-- a file that another manager than npm takes has none
+pub unread_deps : (m : ManagerKind) (f : MarkedFile) (ds : List Dep) → is_npm m ≡ false → ds ≡ [] → AreDeps m f ds
+unread_deps Cargo f ds other none = record { finds = []; read = inr (record { unread = λ u ms read. read; same = refl }); same = none }
+unread_deps Npm f ds other none = absurd (cc other)
+unread_deps Dockerfile f ds other none = record { finds = []; read = inr (record { unread = λ u ms read. read; same = refl }); same = none }
+unread_deps Regex f ds other none = record { finds = []; read = inr (record { unread = λ u ms read. read; same = refl }); same = none }
 
 -- ---- and no others
 
-npm-one : (bytes : List ℕ) (fs gs : List Find) → AreFinds Npm bytes fs → AreFinds Npm bytes gs → fs ≡ gs
-npm-one bytes fs gs (inl a) (inl b) = a.same ∙ (same_Some (finds_from 0 a.marks) (finds_from 0 b.marks) (sym (file-again bytes a.marks a.read) ∙ file-again bytes b.marks b.read) ∙ sym b.same)
-npm-one bytes fs gs (inl a) (inr b) = absurd (b.unread a.utf8 a.marks a.read)
-npm-one bytes fs gs (inr a) (inl b) = absurd (a.unread b.utf8 b.marks b.read)
-npm-one bytes fs gs (inr a) (inr b) = a.same ∙ sym b.same
+-- two readings of a text have the same finds
+pub same_finds : (m : ManagerKind) (bytes : List ℕ) (ms ns : List Mark) → IsReadBy m bytes ms → IsReadBy m bytes ns → finds_from 0 ms ≡ finds_from 0 ns
+same_finds Cargo bytes ms ns left right = absurd left
+same_finds Npm bytes ms ns left right = same_Some (finds_from 0 ms) (finds_from 0 ns) (sym (file-again bytes ms left) ∙ file-again bytes ns right)
+same_finds Dockerfile bytes ms ns left right = absurd left
+same_finds Regex bytes ms ns left right = absurd left
 
 finds-one : (m : ManagerKind) (bytes : List ℕ) (fs gs : List Find) → AreFinds m bytes fs → AreFinds m bytes gs → fs ≡ gs
-finds-one Cargo bytes fs gs a b = a ∙ sym b
-finds-one Npm bytes fs gs a b = npm-one bytes fs gs a b
-finds-one Dockerfile bytes fs gs a b = a ∙ sym b
-finds-one Regex bytes fs gs a b = a ∙ sym b
+finds-one m bytes fs gs (inl a) (inl b) = a.same ∙ (same_finds m bytes a.marks b.marks a.read b.read ∙ sym b.same)
+finds-one m bytes fs gs (inl a) (inr b) = absurd (b.unread a.utf8 a.marks a.read)
+finds-one m bytes fs gs (inr a) (inl b) = absurd (a.unread b.utf8 b.marks b.read)
+finds-one m bytes fs gs (inr a) (inr b) = a.same ∙ sym b.same
 
 pub deps-one : (m : ManagerKind) (f : MarkedFile) (ds es : List Dep) → AreDeps m f ds → AreDeps m f es → ds ≡ es
 deps-one m f ds es a b = a.same ∙ (ap (map (dep_of f.path m)) (finds-one m f.bytes a.finds b.finds a.read b.read) ∙ sym b.same)

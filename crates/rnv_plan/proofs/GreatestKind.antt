@@ -5,10 +5,11 @@ use Rattle.std.specs.List.{All, Any}
 use Rattle.std.specs.Ordering.{nat_cmp, is_gt}
 use Rattle.std.proofs.lemmas.Bool.Decides.{nat_tests}
 use Rattle.std.proofs.lemmas.List.Elements.{All-cons, All-nil, All-weaker}
+use Rattle.rnv_base.specs.Kinds.{rank}
 use Rattle.rnv_base.specs.declared.kinds.UpdateKind.{UpdateKind}
 use Rattle.rnv_base.specs.declared.kinds.UpdateKind.TheVariants as kind
 use Rattle.rnv_pick.specs.declared.update.Update.{Update}
-use Rattle.rnv_plan.specs.Items.{rank, IsGreatestKind}
+use Rattle.rnv_plan.specs.Items.{IsGreatestKind}
 use Rattle.rnv_plan.specs.Groups.{higher, greatest_kind}
 
 -- ---- an element of a list

@@ -10,6 +10,7 @@ pub mod OneList
 pub mod Picks
 pub mod Refused
 pub mod Rising
+pub mod Staying
 pub mod TakenFiles
 pub mod Told
 pub mod Zips

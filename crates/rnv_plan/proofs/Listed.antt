@@ -11,7 +11,7 @@ use Rattle.std.specs.Ordering.{nat_cmp, eq_by_cmp, is_eq, is_lt, ordering_then, 
 use Rattle.std.specs.declared.cmp.Ordering.{Ordering}
 use Rattle.std.specs.declared.cmp.Ordering.TheVariants.{Less, Equal, Greater}
 use Rattle.std.proofs.lemmas.Bool.{cases_Bool}
-use Rattle.std.proofs.lemmas.Cmp.{eq_by_cmp_equiv, nat_list_cmp_total}
+use Rattle.std.proofs.lemmas.Cmp.{back_total, eq_by_cmp_equiv, int_cmp_total, nat_list_cmp_total}
 use Rattle.std.proofs.lemmas.List.{length-map}
 use Rattle.std.proofs.Math.ListN.{get_or-map}
 use Rattle.std.proofs.lemmas.List.Elements.{All-map}
@@ -21,8 +21,9 @@ use Rattle.std.proofs.lemmas.Map.Lookups.{exact_bytes}
 use Rattle.std.proofs.lemmas.Map.Keys.{IsDistinct-from_sorted, IsDistinct-IsPermutation, apart_from_distinct, sorted_from_all_adjacent}
 use Rattle.std.proofs.lemmas.Option.{slice_get-get_or, get_or_from_slice_get, slice_get_within}
 use Rattle.rnv_pick.specs.declared.update.Update.{Update}
+use Rattle.rnv_base.specs.Kinds.{rank}
 use Rattle.rnv_plan.specs.declared.item.Item.{Item}
-use Rattle.rnv_plan.specs.Items.{branch_name, is_on, rank, item_cmp, IsItem, AreItems}
+use Rattle.rnv_plan.specs.Items.{branch_name, is_on, item_cmp, IsItem, AreItems}
 use Rattle.rnv_plan.specs.Groups.{not_empty, group_of, item_of}
 use Rattle.rnv_plan.proofs.Grouped.{equal, on_own}
 use Rattle.rnv_plan.proofs.GreatestKind.{is_greatest_kind}
@@ -49,7 +50,7 @@ some-has (u ∷ us) vs is = λ none. cc (is, none)
 is-item : (updates : List Update) (branch : List ℕ) (us : List Update) → group_of branch updates ≡ Some us → IsItem updates (item_of (branch, us))
 is-item updates branch us group =
     let some = some-has (filter (is_on branch) updates) us group in
-    record { some = some; all = some-is (filter (is_on branch) updates) us group; greatest = is_greatest_kind us some }
+    record { some = some; all = some-is (filter (is_on branch) updates) us group; greatest = is_greatest_kind us some; priority = refl }
 
 each : (updates : List Update) (groups : Groups) → IsOrdered name_cmp groups → Holds updates groups → All (IsItem updates) (map item_of groups.entries)
 each updates groups ordered holds = All-map (IsItem updates) item_of groups.entries (λ i d within.
@@ -91,7 +92,7 @@ turned Equal p is not unequal = cc (is, unequal)
 turned Greater p is not unequal = is
 
 pub item-total : IsTotalOrder item_cmp
-item-total = then_total (on_total (λ (i : Item). rank i.kind) nat_cmp_total) (on_total (λ (i : Item). i.branch) nat_list_cmp_total)
+item-total = then_total (then_total (on_total (λ (i : Item). i.priority) (back_total int_cmp_total)) (on_total (λ (i : Item). rank i.kind) nat_cmp_total)) (on_total (λ (i : Item). i.branch) nat_list_cmp_total)
 
 names : (es : List (List ℕ × List Update)) → map (λ (item : Item). item.branch) (map item_of es) ≡ keys_of es
 names [] = refl

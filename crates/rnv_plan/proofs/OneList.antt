@@ -1,6 +1,6 @@
 -- Two lists of items of the same updates are one list.
 use Rattle.std.proofs.Common.{◌≡◌, ℕ, zero, suc, ◌⊎◌, List, [], ◌∷◌, Bool, true, refl, sym, ◌∙◌, ap, subst, inl, inr, arith}
-use Rattle.std.specs.Prelude.{filter, ◌≢◌}
+use Rattle.std.specs.Prelude.{ℤ, filter, ◌≢◌}
 use Rattle.std.specs.List.{Any, Contains}
 use Rattle.std.specs.List.Sorted.{IsStrictlySortedBy}
 use Rattle.std.specs.Cmp.{IsTotalOrder}
@@ -14,7 +14,7 @@ use Rattle.std.proofs.lemmas.Map.Keys.{sorted_head, sorted_tail}
 use Rattle.rnv_base.specs.declared.kinds.UpdateKind.{UpdateKind}
 use Rattle.rnv_pick.specs.declared.update.Update.{Update}
 use Rattle.rnv_plan.specs.declared.item.Item.{Item}
-use Rattle.rnv_plan.specs.Items.{branch_name, is_on, item_cmp, IsItem, AreItems}
+use Rattle.rnv_plan.specs.Items.{branch_name, is_on, priority_of, item_cmp, IsItem, AreItems}
 use Rattle.rnv_plan.specs.Laws.{ItemsAreUnique}
 use Rattle.rnv_plan.proofs.GreatestKind.{one_greatest_kind}
 use Rattle.rnv_plan.proofs.Grouped.{same_name}
@@ -72,14 +72,14 @@ one-list R o (x ∷ xs) (y ∷ ys) left right there back =
 
 -- ---- items of one branch
 
-same-parts : (n m : List ℕ) (k l : UpdateKind) (us vs : List Update) → n ≡ m → k ≡ l → us ≡ vs → ◌≡◌ {A = Item} (record { branch = n; kind = k; updates = us }) (record { branch = m; kind = l; updates = vs })
-same-parts n m k l us vs branches kinds lists = cc
+same-parts : (n m : List ℕ) (k l : UpdateKind) (p q : ℤ) (us vs : List Update) → n ≡ m → k ≡ l → p ≡ q → us ≡ vs → ◌≡◌ {A = Item} (record { branch = n; kind = k; priority = p; updates = us }) (record { branch = m; kind = l; priority = q; updates = vs })
+same-parts n m k l p q us vs branches kinds priorities lists = cc
 
-one-item : (updates : List Update) (a b : Item) → IsItem updates a → IsItem updates b → a.branch ≡ b.branch → a ≡ b
+pub one-item : (updates : List Update) (a b : Item) → IsItem updates a → IsItem updates b → a.branch ≡ b.branch → a ≡ b
 one-item updates a b left right branches =
     let lists : a.updates ≡ b.updates = left.all ∙ ap (λ q. filter (is_on q) updates) branches ∙ sym right.all in
     let kinds : a.kind ≡ b.kind = one_greatest_kind a.updates a.kind b.kind left.greatest (rw lists right.greatest) in
-    same-parts _ _ _ _ _ _ branches kinds lists
+    same-parts _ _ _ _ _ _ _ _ branches kinds (left.priority ∙ (ap priority_of lists ∙ sym right.priority)) lists
 
 -- an update on a branch that has some
 some-update : (p : Update → Bool) (us : List Update) → filter p us ≢ [] → (u : Update) × Contains us u × (p u ≡ true)

@@ -1,6 +1,6 @@
 -- What is gathered of a base: the dependencies of its files, each with its updates.
 use Rattle.std.specs.Prelude.{◌≡◌, ◌≤◌, ℕ, List, length, map, Bool, true, false, Option, Some, None}
-use Rattle.std.specs.List.{All, AllZip, Contains, flat_map}
+use Rattle.std.specs.List.{All, AllZip, Contains}
 use Rattle.rnv_base.specs.Files.{NamedFile}
 use Rattle.rnv_forge.specs.Files.{MarkedFile}
 use Rattle.rnv_forge.specs.Named.{IsRisingBy}
@@ -8,7 +8,6 @@ use Rattle.rnv_release.specs.declared.release.Release.{Release}
 use Rattle.rnv_release.specs.Npm.{npm_path, npm_reading}
 use Rattle.rnv_release.specs.Index.{Index, absent, listed, too_long, bad, too_many, index_of}
 use Rattle.rnv_pick.specs.declared.dep.Dep.{Dep}
-use Rattle.rnv_pick.specs.declared.update.Update.{Update}
 use Rattle.rnv_pick.specs.Updates.{AreUpdates}
 use Rattle.rnv_plan.specs.declared.inputs.PickedDep.{PickedDep}
 use Rattle.rnv_plan.specs.declared.inputs.PickedFile.{PickedFile}
@@ -98,10 +97,3 @@ pub record IsPickedOf (base : List MarkedFile) (p : PickedFile) : Type 0 where
 pub record AreFit (base : List MarkedFile) (picked : List PickedFile) : Type 0 where
   pub rising : IsRisingBy (λ p. p.path) picked
   pub each : All (IsPickedOf base) picked
-
--- all updates: by file, then by dependency, then by version
-abbrev pub updates_of : PickedFile → List Update
-updates_of p = flat_map (λ d. d.picked.updates) p.deps
-
-abbrev pub updates_in : List PickedFile → List Update
-updates_in picked = flat_map updates_of picked

@@ -11,10 +11,10 @@ use Rattle.rnv_plan.specs.Plan.{IsPlanned, IsPlanRefusal}
 abbrev pub ItemsAreUnique : Type 0
 ItemsAreUnique = (updates : List Update) (xs ys : List Item) → AreItems updates xs → AreItems updates ys → xs ≡ ys
 
--- a repository of a folder has one refusal at most, and none where it has a plan
-pub record HasOneAnswer (repo : List ℕ) (files : List NamedFile) : Type 0 where
-  pub one : (e f : RunError) → IsPlanRefusal repo files e → IsPlanRefusal repo files f → e ≡ f
-  pub none : (items : List Item) (e : RunError) → IsPlanned repo files items → ¬ (IsPlanRefusal repo files e)
+-- a repository of a folder has one refusal at most at a moment, and none where it has a plan
+pub record HasOneAnswer (repo : List ℕ) (moment : ℕ) (files : List NamedFile) : Type 0 where
+  pub one : (e f : RunError) → IsPlanRefusal repo moment files e → IsPlanRefusal repo moment files f → e ≡ f
+  pub none : (items : List Item) (e : RunError) → IsPlanned repo moment files items → ¬ (IsPlanRefusal repo moment files e)
 
 abbrev pub RefusalsAreOne : Type 0
-RefusalsAreOne = (repo : List ℕ) (files : List NamedFile) → HasOneAnswer repo files
+RefusalsAreOne = (repo : List ℕ) (moment : ℕ) (files : List NamedFile) → HasOneAnswer repo moment files

@@ -1,5 +1,7 @@
 pub mod Branch
 pub mod Items
+pub mod Kept
+pub mod Named
 pub mod Groups
 pub mod Managers
 pub mod Taken

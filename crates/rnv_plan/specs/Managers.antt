@@ -1,9 +1,11 @@
--- Which manager takes a file, by the last part of its path.
+-- Which manager takes a file, by the last part of its path, and how it reads one.
 use Rattle.std.specs.Prelude.{ℕ, List, Bool, ◌==◌, ◌||◌, if◌then◌else◌, Option, Some, None, codes}
 use Rattle.std.specs.List.{after_last, starts_with}
 use Rattle.std.specs.Cmp.Lexicographic.{pointwise}
 use Rattle.rnv_base.specs.declared.kinds.ManagerKind.{ManagerKind}
-use Rattle.rnv_base.specs.declared.kinds.ManagerKind.TheVariants.{Cargo, Npm, Dockerfile}
+use Rattle.rnv_base.specs.declared.kinds.ManagerKind.TheVariants.{Cargo, Npm, Dockerfile, Regex}
+use Rattle.rnv_manager.specs.Marks.{Mark}
+use Rattle.rnv_package_json.specs.Grammar.{IsRead}
 
 -- what stands behind the last slash, or all where there is none
 abbrev pub last_segment : List ℕ → List ℕ
@@ -21,3 +23,11 @@ manager_named name =
 -- the manager that takes the file at this path, if one does
 unfoldable pub manager_of : List ℕ → Option ManagerKind
 manager_of path = manager_named (last_segment path)
+
+-- these are the gaps and finds that the manager reads in a text: npm's by the grammar of a `package.json`; of a
+-- `Cargo.toml`, a Dockerfile and what an expression finds nothing is read yet
+abbrev pub IsReadBy : ManagerKind → List ℕ → List Mark → Type 0
+IsReadBy Cargo text marks = ⊥
+IsReadBy Npm text marks = IsRead text marks
+IsReadBy Dockerfile text marks = ⊥
+IsReadBy Regex text marks = ⊥

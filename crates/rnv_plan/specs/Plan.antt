@@ -10,7 +10,8 @@ use Rattle.rnv_plan.specs.declared.error.RunError.{RunError}
 use Rattle.rnv_plan.specs.declared.error.RunError.TheVariants.{UnknownRepo, Limit}
 use Rattle.rnv_plan.specs.declared.inputs.Planned.{Planned}
 use Rattle.rnv_plan.specs.declared.item.Item.{Item}
-use Rattle.rnv_plan.specs.Gather.{IsGathered, updates_in}
+use Rattle.rnv_plan.specs.Gather.{IsGathered}
+use Rattle.rnv_plan.specs.Kept.{kept_updates}
 use Rattle.rnv_plan.specs.Refusal.{IsRefusal}
 use Rattle.rnv_plan.specs.Items.{AreItems}
 
@@ -26,8 +27,9 @@ pub record IsFolderBase (repo : List ℕ) (files : List NamedFile) (base : List 
   pub within : IsWithin kept
   pub same : base ≡ map unchanged kept
 
--- what is gathered of it
-pub record IsGatheredOf (repo : List ℕ) (files : List NamedFile) (planned : Planned) : Type 0 where
+-- what is gathered of it for a moment
+pub record IsGatheredOf (repo : List ℕ) (moment : ℕ) (files : List NamedFile) (planned : Planned) : Type 0 where
+  pub at : planned.inputs.moment ≡ moment
   pub base : IsFolderBase repo files planned.files
   pub gathered : IsGathered files planned.files planned.inputs.picked
 
@@ -51,13 +53,13 @@ pub record HaveManyItems (updates : List Update) (error : RunError) : Type 0 whe
   pub many : 5000 < length items
   pub same : error ≡ Limit (codes "items") 5000
 
--- the items that the folder gives for the repository
-pub record IsPlanned (repo : List ℕ) (files : List NamedFile) (items : List Item) : Type 0 where
+-- the items that the folder gives for the repository at a moment
+pub record IsPlanned (repo : List ℕ) (moment : ℕ) (files : List NamedFile) (items : List Item) : Type 0 where
   pub planned : Planned
-  pub gathered : IsGatheredOf repo files planned
-  pub few : AreFewItems (updates_in planned.inputs.picked) items
+  pub gathered : IsGatheredOf repo moment files planned
+  pub few : AreFewItems (kept_updates planned.inputs.picked) items
 
 -- why it gives none
-pub data IsPlanRefusal (repo : List ℕ) (files : List NamedFile) (error : RunError) : Type 0 where
-  not_gathered : IsFolderRefusal repo files error → IsPlanRefusal repo files error
-  many_items : (planned : Planned) → IsGatheredOf repo files planned → HaveManyItems (updates_in planned.inputs.picked) error → IsPlanRefusal repo files error
+pub data IsPlanRefusal (repo : List ℕ) (moment : ℕ) (files : List NamedFile) (error : RunError) : Type 0 where
+  not_gathered : IsFolderRefusal repo files error → IsPlanRefusal repo moment files error
+  many_items : (planned : Planned) → IsGatheredOf repo moment files planned → HaveManyItems (kept_updates planned.inputs.picked) error → IsPlanRefusal repo moment files error

@@ -8,32 +8,28 @@ use Rattle.rnv_base.specs.declared.kinds.ManagerKind.TheVariants.{Cargo, Npm, Do
 use Rattle.rnv_forge.specs.Files.{MarkedFile}
 use Rattle.rnv_manager.specs.Finds.{Find}
 use Rattle.rnv_manager.specs.Marks.{Mark, finds_from}
-use Rattle.rnv_package_json.specs.Grammar.{IsRead}
 use Rattle.rnv_npm.specs.Exact.{exact_of}
 use Rattle.rnv_pick.specs.declared.dep.Dep.{Dep}
 use Rattle.rnv_plan.specs.declared.taken.TakenFile.{TakenFile}
-use Rattle.rnv_plan.specs.Managers.{manager_of}
+use Rattle.rnv_plan.specs.Managers.{manager_of, IsReadBy}
 
 -- ---- the finds of a file
 
--- these are the finds of the text
-pub record AreFindsOf (text : List ℕ) (finds : List Find) : Type 0 where
+-- these are what the manager finds in the text
+pub record AreFindsOf (manager : ManagerKind) (text : List ℕ) (finds : List Find) : Type 0 where
   pub utf8 : IsUtf8 text
   pub marks : List Mark
-  pub read : IsRead text marks
+  pub read : IsReadBy manager text marks
   pub same : finds ≡ finds_from 0 marks
 
--- there are none, since the bytes are no text or outside the grammar
-pub record AreUnread (bytes : List ℕ) (finds : List Find) : Type 0 where
-  pub unread : IsUtf8 bytes → (marks : List Mark) → ¬ (IsRead bytes marks)
+-- there are none, since the bytes are no text, or none that the manager reads
+pub record AreUnread (manager : ManagerKind) (bytes : List ℕ) (finds : List Find) : Type 0 where
+  pub unread : IsUtf8 bytes → (marks : List Mark) → ¬ (IsReadBy manager bytes marks)
   pub same : finds ≡ []
 
--- what the manager finds in a file; of a `Cargo.toml` or a Dockerfile nothing is read yet
+-- what the manager finds in a file
 abbrev pub AreFinds : ManagerKind → List ℕ → List Find → Type 0
-AreFinds Cargo bytes finds = finds ≡ []
-AreFinds Npm bytes finds = AreFindsOf bytes finds ⊎ AreUnread bytes finds
-AreFinds Dockerfile bytes finds = finds ≡ []
-AreFinds Regex bytes finds = finds ≡ []
+AreFinds manager bytes finds = AreFindsOf manager bytes finds ⊎ AreUnread manager bytes finds
 
 -- ---- the files of a base
 

@@ -1,9 +1,13 @@
-ghost use Rattle.std.specs.Prelude.{◌≡◌, ◌++◌, ◌<◌, IfOk, reverse, length};
+ghost use Rattle.std.specs.Prelude.{◌≡◌, ◌++◌, ◌<◌, IfOk, reverse, length, unwrap_or, option_map};
 ghost use Rattle.std.specs.Str.{IsAscii};
 ghost use Rattle.std.specs.Fmt.{decimal};
 ghost use Rattle.rnv_plan.specs.Branch.{skip, is_plain, plain_or_dash, is_edge, written, begins_with_dash, single_dashes, or_x, trimmed, sanitised, branch_of};
+ghost use Rattle.rnv_plan.specs.Items.{branch_name, major_of};
 
-use rnv_base::Text;
+use rnv_base::{SourceKind, Text};
+use rnv_npm::NpmVersioning;
+use rnv_pick::Update;
+use rnv_version::{CargoVersioning, DockerVersioning, VersionError, Versioning};
 use std::alloc::{AllocError, Global};
 use std::convert::AsStr;
 
@@ -14,6 +18,36 @@ pub fn branch_name(alloc: Global, package: &str, major: u64) -> Result<Text, All
     let topic = sanitised(alloc, package)?;
     let topic = topic.as_str();
     Ok(Text::new(format!(in alloc; "renovate/{topic}-{major}.x")?))
+}
+
+// The name of the branch that an update belongs to.
+pub(crate) fn branch_of(alloc: Global, update: &Update) -> Result<Text, AllocError>
+    ensures { IfOk result (λ name. name ≡ branch_name update.now) }
+{
+    let major = major_of(alloc, update.dep.source, update.new_version.as_str())?;
+    branch_name(alloc, update.dep.package.as_str(), major)
+}
+
+// The first number of a version of the source, 0 for a text that is none.
+fn major_of(alloc: Global, source: SourceKind, text: &str) -> Result<u64, AllocError>
+    ensures { IfOk result (λ major. major ≡ major_of source text.now) }
+{
+    match source {
+        SourceKind::Crates => major_by(alloc, &CargoVersioning, text),
+        SourceKind::Npm => major_by(alloc, &NpmVersioning, text),
+        SourceKind::Docker => major_by(alloc, &DockerVersioning, text),
+    }
+}
+
+// The first number of a version of this versioning, 0 for a text that is none.
+fn major_by<V: Versioning>(alloc: Global, versioning: &V, text: &str) -> Result<u64, AllocError>
+    ensures { IfOk result (λ major. major ≡ unwrap_or (option_map (λ v. (V.numbers_of versioning.now v).major) (V.version_of versioning.now text.now)) 0) }
+{
+    match versioning.version(alloc, text) {
+        Ok(version) => Ok(versioning.numbers(&version).major),
+        Err(VersionError::NotAVersion) => Ok(0),
+        Err(VersionError::Memory) => Err(AllocError),
+    }
 }
 
 // The package as a part of a branch name.

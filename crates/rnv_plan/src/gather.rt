@@ -5,8 +5,9 @@ ghost use Rattle.rnv_forge.specs.Named.{IsRisingBy};
 ghost use Rattle.rnv_forge.specs.WellFormed.{AreInOrder};
 ghost use Rattle.rnv_release.specs.declared.release.Release.{Release as OfRelease};
 ghost use Rattle.rnv_plan.specs.declared.error.RunError.{RunError as Error};
+ghost use Rattle.rnv_plan.specs.declared.taken.TakenFile.{TakenFile as OfTaken};
 ghost use Rattle.rnv_plan.specs.Taken.{deps_in};
-ghost use Rattle.rnv_plan.specs.Gather.{releases_for, IsSound, ArePicked, AreFit, IsGathered, IsPickedFrom};
+ghost use Rattle.rnv_plan.specs.Gather.{releases_for, IsSound, ArePicked, AreBuilt, AreFit, IsGathered, IsPickedFrom};
 ghost use Rattle.rnv_plan.specs.Refusal.{IfTold, HasUnsound, IsRefusal};
 ghost use Rattle.rnv_plan.specs.Plan.{unchanged, IsFolderBase, IsFolderRefusal, IsGatheredOf};
 
@@ -50,6 +51,8 @@ fn gather_files<O: Folder>(
     ensures refused { O.tells → IfErr result (IfTold (IsRefusal (O.files folder.old) files.now)) }
     ensures same { O.tells → (O.files folder.new ≡ O.files folder.old) }
     ensures cause { FaultsBy (O.faults folder.old) (O.faults folder.new) result RunError.FolderFault }
+    // The folder is read only where nothing of the base is refused.
+    ensures reads { result ≡ Err RunError.FolderFault → (taken : Items OfTaken) × AreBuilt files.now taken }
     ensures disk { result ≢ Err RunError.DiskFault }
 {
     match built(alloc, files) {
@@ -100,6 +103,8 @@ pub fn gather_base<O: Folder>(
     ensures exactly { O.tells → OnOk result ((error : Error) → ¬ IsRefusal (O.files folder.old) files.now error) }
     ensures same { O.tells → (O.files folder.new ≡ O.files folder.old) }
     ensures cause { FaultsBy (O.faults folder.old) (O.faults folder.new) result RunError.FolderFault }
+    // The folder is read only where nothing of the base is refused.
+    ensures reads { result ≡ Err RunError.FolderFault → (taken : Items OfTaken) × AreBuilt files.now taken }
     ensures disk { result ≢ Err RunError.DiskFault }
 {
     let picked = gather_files(alloc, folder, files.as_slice())?;
@@ -155,7 +160,7 @@ pub fn gather_folder<O: Folder>(
 ) -> Result<Planned, RunError>
     ensures repo { IfOk result (λ planned. planned.inputs.repo ≡ repo.now) }
     ensures moment { IfOk result (λ planned. planned.inputs.moment ≡ moment) }
-    ensures gathered { O.tells → IfOk result (IsGatheredOf repo.now (O.files folder.old)) }
+    ensures gathered { O.tells → IfOk result (IsGatheredOf repo.now moment (O.files folder.old)) }
     // Also where the folder tells nothing.
     ensures picked { IfOk result (λ planned. IsPickedFrom planned.files planned.inputs.picked) }
     ensures fit { IfOk result (λ planned. AreFit planned.files planned.inputs.picked) }

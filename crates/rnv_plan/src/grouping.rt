@@ -2,66 +2,48 @@ ghost use Rattle.std.specs.Prelude.{◌≡◌, List, ℕ, IfOk, map};
 ghost use Rattle.std.specs.Cmp.Lexicographic.{slice_cmp};
 ghost use Rattle.std.specs.Ordering.{nat_cmp};
 ghost use Rattle.std.specs.BTreeMap.{get, IsOrdered};
-ghost use Rattle.rnv_plan.specs.Items.{AreItems, branch_name, item_cmp, major_of};
+ghost use Rattle.rnv_pick.specs.declared.update.Update.{Update as Of};
+ghost use Rattle.rnv_plan.specs.Items.{AreItems, item_cmp};
 ghost use Rattle.rnv_plan.specs.Laws.{ItemsAreUnique};
-ghost use Rattle.rnv_plan.specs.Groups.{group_of, greatest_kind, item_of};
+ghost use Rattle.rnv_plan.specs.Groups.{group_in, greatest_kind, item_of};
+ghost use Rattle.rnv_plan.specs.Named.{with_name};
 
-use crate::{Item, branch_name};
+use crate::Item;
+use crate::named::NamedUpdate;
 use rnv_base::{List, Text, UpdateKind};
-use rnv_npm::NpmVersioning;
 use rnv_pick::Update;
-use rnv_version::{VersionError, Versioning};
 use std::alloc::{AllocError, Global};
 use std::cmp::Ordering;
 use std::collections::BTreeMap;
-use std::convert::{AsSlice, AsStr};
+use std::convert::AsSlice;
 
 // The updates of each branch, in their order, by its name.
 type Branches = BTreeMap<Text, List<Update>>;
 
-/// The items of a list of updates, in item order: the kind rising, then the branch's name by its bytes. Each branch
-/// has one item, with all its updates in their order. A version that cannot be read counts as major version 0. Only
-/// memory can fail.
-pub fn items(alloc: Global, updates: List<Update>) -> Result<List<Item>, AllocError>
-    ensures { IfOk result (AreItems updates) }
+/// The items of updates, of which these are with the names of their branches, in item order: the priority
+/// falling, then the kind rising, then the branch's name by its bytes. Each branch has one item, with all its
+/// updates in their order. A version that cannot be read counts as major version 0. Only memory can fail.
+pub fn items(alloc: Global, named: List<NamedUpdate>) -> Result<List<Item>, AllocError>
+    ensures { (updates : List Of) → named ≡ map with_name updates → IfOk result (AreItems updates) }
 {
-    let branches = by_branch(alloc, updates)?;
+    let branches = by_branch(alloc, named)?;
     let mut items = listed(alloc, branches)?;
     items.sort_by(item_order)?;
     Ok(List::new(items))
 }
 
 // The updates by their branches.
-fn by_branch(alloc: Global, updates: List<Update>) -> Result<Branches, AllocError>
-    ensures { IfOk result (λ branches. (q : List ℕ) → get (slice_cmp nat_cmp) branches q ≡ group_of q updates) }
+fn by_branch(alloc: Global, named: List<NamedUpdate>) -> Result<Branches, AllocError>
+    ensures { IfOk result (λ branches. (q : List ℕ) → get (slice_cmp nat_cmp) branches q ≡ group_in q named) }
 {
     let mut branches = BTreeMap::new(alloc);
-    for update in updates.into_inner() {
-        let branch = branch_of(alloc, &update)?;
+    for one in named.into_inner() {
+        let NamedUpdate { branch, update } = one;
         let mut group = branches.remove(&branch).unwrap_or(List::empty(alloc));
         group.push(update)?;
         branches.insert(branch, group)?;
     }
     Ok(branches)
-}
-
-// The name of the branch that an update belongs to.
-fn branch_of(alloc: Global, update: &Update) -> Result<Text, AllocError>
-    ensures { IfOk result (λ name. name ≡ branch_name update.now) }
-{
-    let major = major_of(alloc, update.new_version.as_str())?;
-    branch_name(alloc, update.dep.package.as_str(), major)
-}
-
-// The first number of a version, 0 for a text that is none.
-fn major_of(alloc: Global, text: &str) -> Result<u64, AllocError>
-    ensures { IfOk result (λ major. major ≡ major_of text.now) }
-{
-    match NpmVersioning.version(alloc, text) {
-        Ok(version) => Ok(NpmVersioning.numbers(&version).major),
-        Err(VersionError::NotAVersion) => Ok(0),
-        Err(VersionError::Memory) => Err(AllocError),
-    }
 }
 
 // The items of branches, by name.
@@ -75,6 +57,7 @@ fn listed(alloc: Global, branches: Branches) -> Result<Vec<Item>, AllocError>
         items.push(Item {
             branch,
             kind,
+            priority: 0,
             updates,
         })?;
     }
@@ -93,10 +76,13 @@ fn greatest_kind(updates: &[Update]) -> UpdateKind
 }
 
 // Item order.
-fn item_order(a: &Item, b: &Item) -> Ordering
+pub(crate) fn item_order(a: &Item, b: &Item) -> Ordering
     ensures { result ≡ item_cmp a.now b.now }
 {
-    a.kind.cmp(&b.kind).then(a.branch.cmp(&b.branch))
+    b.priority
+        .cmp(&a.priority)
+        .then(a.kind.cmp(&b.kind))
+        .then(a.branch.cmp(&b.branch))
 }
 
 /// Does nothing: its promise is the law that a list of updates has one list of items at most.

@@ -1,11 +1,15 @@
+use crate::branch::branch_of;
+use crate::grouping::item_order;
+use crate::kept::kept;
 use crate::managers::manager_of;
 use crate::{
-    Item, RunError, branch_name, gather_base, gather_folder, items, one_order, one_refusal,
-    plan_folder,
+    Item, NamedUpdate, RunError, branch_name, gather_base, gather_folder, items, one_order,
+    one_refusal, plan_folder,
 };
 use rnv_base::{Bytes, List, ManagerKind, MemFile, MemFolder, SourceKind, Text, UpdateKind};
 use rnv_pick::{Dep, Update};
 use std::alloc::{AllocError, Global};
+use std::cmp::Ordering;
 use std::convert::{AsSlice, AsStr};
 use std::test::Fail;
 
@@ -53,11 +57,13 @@ const ITEMS: [(&str, UpdateKind, usize); 6] = [
 
 #[test]
 fn orders_items(rt: HostRuntime) -> Result<(), Fail> {
-    let mut updates = List::empty(rt.alloc());
+    let mut named = List::empty(rt.alloc());
     for (package, version, value, kind) in UPDATES {
-        updates.push(update(rt.alloc(), package, version, value, kind)?)?;
+        let update = update(rt.alloc(), package, version, value, kind)?;
+        let branch = branch_of(rt.alloc(), &update)?;
+        named.push(NamedUpdate { branch, update })?;
     }
-    let items = items(rt.alloc(), updates)?;
+    let items = items(rt.alloc(), named)?;
     assert_eq!(rt; items.len(), ITEMS.len());
     for (item, (branch, kind, len)) in items.as_slice().iter().zip(ITEMS) {
         assert_eq!(rt; item.branch.as_str(), branch);
@@ -73,6 +79,79 @@ fn orders_items(rt: HostRuntime) -> Result<(), Fail> {
             _ => panic!(rt; "not two updates"),
         },
         _ => panic!(rt; "too few items"),
+    }
+    Ok(())
+}
+
+// Priorities, kinds and names of items in order.
+const ORDER: [(i64, UpdateKind, &str); 6] = [
+    (7, UpdateKind::Major, "z"),
+    (0, UpdateKind::Pin, "z"),
+    (0, UpdateKind::Patch, "b"),
+    (0, UpdateKind::Patch, "c"),
+    (0, UpdateKind::Major, "a"),
+    (-1, UpdateKind::Pin, "a"),
+];
+
+fn item(alloc: Global, row: (i64, UpdateKind, &str)) -> Result<Item, AllocError> {
+    let (priority, kind, branch) = row;
+    Ok(Item {
+        branch: Text::copied(alloc, branch)?,
+        kind,
+        priority,
+        updates: List::empty(alloc),
+    })
+}
+
+#[test]
+fn orders_by_priority(rt: HostRuntime) -> Result<(), Fail> {
+    for (first, second) in ORDER.iter().zip(ORDER.iter().skip(1)) {
+        let first = item(rt.alloc(), *first)?;
+        let second = item(rt.alloc(), *second)?;
+        assert!(rt; item_order(&first, &second) == Ordering::Less);
+        assert!(rt; item_order(&second, &first) == Ordering::Greater);
+    }
+    Ok(())
+}
+
+// Of two updates to one first number, as the source counts it, the last stays.
+#[test]
+fn keeps_last_updates(rt: HostRuntime) -> Result<(), Fail> {
+    for (source, versions, want) in [
+        (
+            SourceKind::Npm,
+            "1.1.0 1.2.0 2.0.0 2.1.0 3.0.0",
+            "a-1.x 1.2.0 a-2.x 2.1.0 a-3.x 3.0.0 ",
+        ),
+        (
+            SourceKind::Crates,
+            "1.1.0 1.2.0+3 2.0.0-rc.1",
+            "a-1.x 1.2.0+3 a-2.x 2.0.0-rc.1 ",
+        ),
+        (
+            SourceKind::Docker,
+            "v3 18.2-alpine 18.10-alpine",
+            "a-3.x v3 a-18.x 18.10-alpine ",
+        ),
+        (SourceKind::Npm, "v3 18.2-alpine", "a-0.x 18.2-alpine "),
+    ] {
+        let mut updates = Vec::new(rt.alloc());
+        for version in versions.split(' ') {
+            let mut update = update(rt.alloc(), "a", version, version, UpdateKind::Minor)?;
+            update.dep.source = source;
+            updates.push(update)?;
+        }
+        let mut said = String::new(rt.alloc());
+        for named in kept(rt.alloc(), updates.as_slice())?.as_slice() {
+            let branch = named
+                .branch
+                .as_str()
+                .strip_prefix("renovate/")
+                .ok_or("prefix")?;
+            let version = named.update.new_version.as_str();
+            said.push_str(format!(in rt.alloc(); "{branch} {version} ")?.as_str())?;
+        }
+        assert!(rt; said.as_str() == want, "{said}");
     }
     Ok(())
 }

@@ -9,7 +9,8 @@ use Rattle.serde_json.specs.Read.{read}
 use Rattle.serde_json.specs.View.{members_view}
 use Rattle.serde_json.specs.declared.value.Value.{Value}
 use Rattle.rnv_release.specs.declared.release.Release.{Release}
-use Rattle.rnv_release.specs.Npm.{json_of, names_of}
+use Rattle.rnv_release.specs.Json.{json_of}
+use Rattle.rnv_release.specs.Npm.{names_of}
 
 -- as many releases as entries
 pub length-listed : (release : List ℕ → Release) (entries : List (String Global × Value)) → length (map release (names_of (members_view entries))) ≡ length entries

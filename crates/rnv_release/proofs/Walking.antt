@@ -15,7 +15,8 @@ use Rattle.serde_json.specs.View.{members_view}
 use Rattle.serde_json.specs.declared.value.Value.{Value}
 use Rattle.std.specs.Prelude.{option_and_then, false}
 use Rattle.rnv_release.specs.declared.release.Release.{Release}
-use Rattle.rnv_release.specs.Npm.{names_of, release_of, time_of}
+use Rattle.rnv_release.specs.Moments.{time_of}
+use Rattle.rnv_release.specs.Npm.{names_of, release_of}
 use Rattle.rnv_release.specs.Times.{ToldTime, AreRising, members_left, first_time, release_told, time_for, times_from, told_by}
 
 -- a name is below all names of a list

@@ -1,5 +1,7 @@
 pub mod Reading
 pub mod Refusal
+pub mod Json
+pub mod Moments
 pub mod Npm
 pub mod Parts
 pub mod Times

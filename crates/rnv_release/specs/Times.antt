@@ -10,7 +10,7 @@ use Rattle.serde_json.specs.declared.value.Value.{Value}
 use Rattle.rnv_base.specs.Files.{IsRising}
 use Rattle.rnv_release.specs.declared.release.Release.{Release}
 use Rattle.rnv_release.specs.declared.times.Times.{Times}
-use Rattle.rnv_release.specs.Npm.{time_of}
+use Rattle.rnv_release.specs.Moments.{time_of}
 
 -- the members of `time`, which may be missing, and else is an object
 abbrev pub times_in : Option Data → Option Members

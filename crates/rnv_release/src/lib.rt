@@ -3,7 +3,9 @@
 #![tactic(auto)]
 
 mod datasource;
+mod json;
 mod lookup;
+mod moments;
 mod npm;
 mod package;
 mod release;

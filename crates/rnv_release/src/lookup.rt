@@ -1,5 +1,5 @@
 ghost use Rattle.std.specs.Prelude.{◌≡◌, ◌≢◌, ◌≤◌, length, IfOk, IfSome};
-ghost use Rattle.rnv_base.specs.Causes.{FaultsBy};
+ghost use Rattle.rnv_base.specs.Causes.{FaultsBy, PassesNone};
 ghost use Rattle.rnv_base.specs.Names.{IsPackageName};
 ghost use Rattle.rnv_release.specs.Index.{index_from, index_of, GivesIndex};
 
@@ -28,7 +28,8 @@ pub enum ReadIndexError {
 }
 
 /// The releases that a folder's index lists for a package. None where the name is no package name
-/// or there is no document. The folder is asked once, and only for a package name.
+/// or there is no document. The folder is asked only for a package name, and a fault of it is answered:
+/// where none is, none came.
 pub fn read_releases<O: Folder, S: Datasource>(
     alloc: Global,
     folder: &mut O,
@@ -40,6 +41,7 @@ pub fn read_releases<O: Folder, S: Datasource>(
     ensures few { IfOk result (λ found. IfSome found (λ releases. length releases ≤ 50000)) }
     ensures same { O.tells → (O.files folder.new ≡ O.files folder.old) }
     ensures cause { FaultsBy (O.faults folder.old) (O.faults folder.new) result ReadIndexError.FolderFault }
+    ensures passed { PassesNone (O.faults folder.old) (O.faults folder.new) result ReadIndexError.FolderFault }
 {
     if !is_package(name) {
         return Ok(None);

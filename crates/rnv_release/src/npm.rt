@@ -1,13 +1,13 @@
-ghost use Rattle.std.specs.Prelude.{◌≡◌, length, map, Some, None, IfOk, IfErr, option_map};
+ghost use Rattle.std.specs.Prelude.{◌≡◌, length, map, Some, IfOk, option_map};
 ghost use Rattle.std.specs.BTreeMap.{btree_map_len};
 ghost use Rattle.serde_json.specs.Data.{object};
 ghost use Rattle.serde_json.specs.Find.{as_object};
 ghost use Rattle.serde_json.specs.View.{view, members_view};
-ghost use Rattle.rnv_release.specs.Npm.{json_of, names_of, npm_path, npm_reading, npm_releases, release_of};
-ghost use Rattle.rnv_release.specs.Refusal.{IfBadIndex, IfTooManyReleases};
+ghost use Rattle.rnv_release.specs.Npm.{names_of, npm_path, npm_reading, npm_releases, release_of};
 ghost use Rattle.rnv_release.specs.Times.{AreRising, release_told, times_in, times_left};
 ghost use Rattle.rnv_release.specs.Parts.{releases_of_parts};
 
+use crate::json::read_json;
 use crate::times::Times;
 use crate::{Datasource, IndexError, Release};
 use rnv_base::{List, Text};
@@ -38,7 +38,11 @@ impl Datasource for NpmIndex {
     }
 
     fn read(&self, alloc: Global, bytes: &[u8]) -> Result<List<Release>, IndexError> {
-        let document = json(alloc, bytes)?;
+        let document = match read_json(alloc, bytes) {
+            Ok(Some(document)) => document,
+            Ok(None) => return Err(IndexError::BadIndex { line: 1 }),
+            Err(_) => return Err(IndexError::Memory),
+        };
         let Some(Parts { versions, times }) = parts_of(alloc, document) else {
             return Err(IndexError::BadIndex { line: 1 });
         };
@@ -50,23 +54,6 @@ impl Datasource for NpmIndex {
         match releases(alloc, versions, times) {
             Ok(releases) => Ok(releases),
             Err(_) => Err(IndexError::Memory),
-        }
-    }
-}
-
-// The JSON value of the bytes, which may be any.
-fn json(alloc: Global, bytes: &[u8]) -> Result<Value, IndexError>
-    ensures value { IfOk result (λ value. json_of bytes.now ≡ Some (view value)) }
-    ensures bad { IfErr result (IfBadIndex (λ line. (line ≡ 1) × (json_of bytes.now ≡ None))) }
-    ensures many { IfErr result (IfTooManyReleases (λ number. ⊥)) }
-{
-    match Value::from_slice(alloc, bytes) {
-        Ok(value) => Ok(value),
-        Err(error) => {
-            if error.is_memory() {
-                return Err(IndexError::Memory);
-            }
-            Err(IndexError::BadIndex { line: 1 })
         }
     }
 }

@@ -1,16 +1,11 @@
-ghost use Rattle.std.specs.Prelude.{◌≡◌, IfSome};
-ghost use Rattle.serde_json.specs.View.{view, members_view};
-ghost use Rattle.rnv_base.specs.Moment.{IsMoment};
-ghost use Rattle.rnv_release.specs.Npm.{moment_of, time_of};
+ghost use Rattle.std.specs.Prelude.{◌≡◌};
+ghost use Rattle.serde_json.specs.View.{members_view};
 
-use jiff::Timestamp;
+use crate::moments::time;
 use serde_json::{Map, Value};
 use std::alloc::Global;
 use std::cmp::Ordering;
 use std::collections::btree_map::IntoIter;
-
-// 9998-12-31T23:59:59Z, the last moment.
-const LAST: i128 = 253_370_764_799;
 
 /// The members of `time` that a walk in the order of their names has not passed.
 #[derive(Drop)]
@@ -59,31 +54,5 @@ impl Times {
             Some((ahead, _)) => name.cmp(ahead.as_str()) == Ordering::Greater,
             None => false,
         }
-    }
-}
-
-// The moment that a value tells.
-fn time(value: &Value) -> Option<u64>
-    ensures { result ≡ time_of (view value.now) }
-{
-    match value.as_str()?.parse::<Timestamp>() {
-        Ok(instant) => moment(instant.as_nanosecond()),
-        Err(_) => None,
-    }
-}
-
-// The moment of an instant in nanoseconds since 1970-01-01T00:00:00Z.
-fn moment(instant: i128) -> Option<u64>
-    ensures value { result ≡ moment_of instant }
-    ensures moment { IfSome result IsMoment }
-{
-    if instant < 0 {
-        return None;
-    }
-    let second = instant / 1_000_000_000;
-    if second <= LAST {
-        Some(second as u64)
-    } else {
-        None
     }
 }

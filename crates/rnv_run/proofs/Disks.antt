@@ -1,5 +1,5 @@
 -- What is said of stops, from the start of a forge to the end of a run over a disk.
-use Rattle.std.proofs.Common.{◌≡◌, ◌≢◌, ◌≤◌, IfErr, IfOk, OnOk, ℕ, List, [], ◌∷◌, ◌++◌, length, take, drop, map, Some, Result, Ok, Err, refl, sym, ap, subst, ◌∙◌, arith, append_assoc}
+use Rattle.std.proofs.Common.{◌⊎◌, inl, inr, IsErrOf, Option, None, ◌≡◌, ◌≢◌, ◌≤◌, IfErr, IfOk, OnOk, ℕ, List, [], ◌∷◌, ◌++◌, length, take, drop, map, Some, Result, Ok, Err, refl, sym, ap, subst, ◌∙◌, arith, append_assoc}
 use Rattle.std.specs.List.{AllByRecursion}
 use Rattle.std.proofs.lemmas.List.{append_cancel_left, drop_at, length-append, length-take, take_at, take-append-drop}
 use Rattle.rnv_base.specs.Files.{NamedFile}
@@ -15,24 +15,28 @@ use Rattle.rnv_journal.specs.Readings.{IsAtRest, IsReadingNow, KeepsReadings, Re
 use Rattle.rnv_journal.specs.declared.start.StartError.{StartError}
 use Rattle.rnv_journal.specs.declared.start.StartError.TheVariants.{DiskFault as start_fault, NotAJournal as start_damaged, Memory as start_memory}
 use Rattle.rnv_journal.proofs.Uses.{reads_then, reads_weaker}
-use Rattle.rnv_outcome.specs.declared.item.Item.{Item}
+use Rattle.rnv_desired.specs.Givens.{IsGiven}
+use Rattle.rnv_outcome.specs.Given.{Given}
 use Rattle.rnv_outcome.specs.Steps.{steps}
 use Rattle.rnv_payload.specs.Spelling.{spelling}
 use Rattle.rnv_payload.proofs.Formats.{some_is}
 use Rattle.rnv_payload.proofs.WriteFormats.{whole_again}
 use Rattle.rnv_plan.specs.declared.error.RunError.{RunError}
 use Rattle.rnv_plan.specs.declared.error.RunError.TheVariants.{Memory, FolderFault, DiskFault, UnknownRepo, NotBuilt, Limit, IndexRefused}
-use Rattle.rnv_steps.specs.Stage.{given}
 use Rattle.rnv_store.specs.Forge.{LeavesWrites}
+use Rattle.rnv_store.specs.Writes.{length_of}
 use Rattle.rnv_store.specs.Start.{IsStoreRefusal}
 use Rattle.rnv_store.proofs.Uses.{leaves_weaker}
 use Rattle.rnv_run.specs.declared.on_disk.RunRefusal.{RunRefusal}
-use Rattle.rnv_run.specs.declared.on_disk.RunRefusal.TheVariants.{Ended}
-use Rattle.rnv_run.specs.Front.{IsFront}
-use Rattle.rnv_run.specs.OnDisk.{ended, IsBegun, IsFinished, IsNotRun, IsRefusedIn, IsStartRefusal, LeavesRun, ReadsFront, Runs, SpellsFront}
-use Rattle.rnv_run.specs.Repository.{AreItemsOf, IfCaused, IsRepoRefusal, IsRunDone}
+use Rattle.rnv_run.specs.declared.on_disk.RunRefusal.TheVariants.{Ended, NotAJournal}
+use Rattle.rnv_run.specs.Begun.{BeginsOrStays}
+use Rattle.rnv_run.specs.Front.{IsFront, SpellsFront}
+use Rattle.rnv_run.specs.OnDisk.{ended, IsBegun, HasRepo, IsFinished, IsNotRun, IsRefusedIn, IsStartRefusal, LeavesRun, ReadsFront, Runs}
+use Rattle.rnv_run.specs.Repository.{IfCaused, IsRepoRefusal, IsRun, IsRunDone}
 use Rattle.rnv_run.specs.Run.{IsResumed, IsStoppedRun, LeavesOutcome}
 use Rattle.rnv_run.specs.Text.{PrintsRun}
+use Rattle.rnv_run.proofs.Begun.{begins_later, keeps_begins, told_call}
+use Rattle.rnv_run.proofs.Wanted.{given_under}
 
 -- what holds of a run where images are told
 pub told_run : (limit : ℕ) (tells : Type 0) (old new : Past) (Q : List (List ℕ) → Type 0) → ((t : ℕ) (c : Image) → new.left t c → tells) → old.moment ≤ new.moment
@@ -43,15 +47,19 @@ told_run limit tells old new Q told later run = record {
   before = λ t c le left. (run (told t c left)).before t c le left;
 }
 
+-- a byte string spells one write
+pub same_write : (v w : Write) → IsWellFormed v → IsWellFormed w → spelling v ≡ spelling w → v ≡ w
+same_write v w a b first = some_is v w (sym (whole_again (spelling v) v a.texts refl) ∙ whole_again (spelling v) w b.texts first)
+
 -- byte strings spell one list of writes
-same_writes : (vs ws : List Write) → AllByRecursion IsWellFormed vs → AllByRecursion IsWellFormed ws → map spelling vs ≡ map spelling ws → vs ≡ ws
+pub same_writes : (vs ws : List Write) → AllByRecursion IsWellFormed vs → AllByRecursion IsWellFormed ws → map spelling vs ≡ map spelling ws → vs ≡ ws
 same_writes [] [] a b e = refl
 same_writes [] (w ∷ ws) a b e = absurd (cc e)
 same_writes (v ∷ vs) [] a b e = absurd (cc e)
 same_writes (v ∷ vs) (w ∷ ws) a b e =
     let first : spelling v ≡ spelling w = cc in
     let others : map spelling vs ≡ map spelling ws = cc in
-    let head : v ≡ w = some_is v w (sym (whole_again (spelling v) v a.0.texts refl) ∙ whole_again (spelling v) w b.0.texts first) in
+    let head : v ≡ w = same_write v w a.0 b.0 first in
     let rest : vs ≡ ws = same_writes vs ws a.1 b.1 others in
     cc
 
@@ -70,10 +78,10 @@ module _ (limit : ℕ) (entry : Past) (start ws : List Write) (least : ℕ) (rea
   then_front mid exit keeps run = reads_then limit entry mid exit (SpellsFront start ws least) (kept_front mid keeps) run
 
 -- the first writes of a run that stand, and the others
-pub stopped_at : (moment : ℕ) (name : List ℕ) (start : List Write) (first : Repo) (items : List Item) (least : ℕ) (now : List Write) → known name (after start []) ≡ Some first
-    → (f : IsFront start (steps (given moment items) first) least now)
-    → IsStoppedRun (given moment items) name start first (take f.count (steps (given moment items) first)) (drop f.count (steps (given moment items) first)) now
-stopped_at moment name start first items least now there f = record { there = there; plan = sym (take-append-drop f.count (steps (given moment items) first)); stands = f.is }
+pub stopped_at : (name : List ℕ) (start : List Write) (first : Repo) (g : Given) (least : ℕ) (now : List Write) → known name (after start []) ≡ Some first
+    → (f : IsFront start (steps g first) least now)
+    → IsStoppedRun g name start first (take f.count (steps g first)) (drop f.count (steps g first)) now
+stopped_at name start first g least now there f = record { there = there; plan = sym (take-append-drop f.count (steps g first)); stands = f.is }
 
 -- no fewer than those
 pub front_weaker : (limit : ℕ) (old new : Past) (start ws : List Write) (least count : ℕ) → least ≤ count → count ≤ length ws → LeavesWrites limit old new (IsFront start (take count ws ++ drop count ws) (length (take count ws)))
@@ -92,35 +100,46 @@ front_weaker limit old new start ws least count le most run = leaves_weaker limi
     }
 
 -- all writes of a run that was stopped, its outcome, and the text of the last of them
-pub finished : (limit : ℕ) (exit : Past) (tells : Type 0) (files : List NamedFile) (name : List ℕ) (moment : ℕ) (start : List Write) (first : Repo) (items : List Item) (us vs old new : List Write) (text : List ℕ)
-    → IsStoppedRun (given moment items) name start first us vs old → IsResumed (given moment items) name start first us vs new → (l : LeavesRun tells files name moment limit old exit text) → l.new ≡ new
-    → IsFinished limit exit name moment start first items text
-finished limit exit tells files name moment start first items us vs old new text stopped resumed l same = record {
+pub finished : (limit : ℕ) (exit : Past) (tells : Type 0) (files : List NamedFile) (name : List ℕ) (moment : ℕ) (start : List Write) (first : Repo) (g : Given) (us vs old new : List Write) (text : List ℕ)
+    → IsStoppedRun g name start first us vs old → IsResumed g name start first us vs new → (l : LeavesRun tells files name moment limit old exit text) → l.new ≡ new
+    → IsFinished limit exit name moment start first g old text
+finished limit exit tells files name moment start first g us vs old new text stopped resumed l same = record {
   at_rest = subst (λ (ws : List Write). IsAtRest limit exit (map spelling ws)) (same ∙ whole) l.at_rest;
-  leaves = subst (λ (ws : List Write). LeavesOutcome (given moment items) name first ws) whole resumed.leaves;
+  leaves = subst (λ (ws : List Write). LeavesOutcome g name first ws) whole resumed.leaves;
   count = length us;
   at_most = omega (arith, ap length stopped.plan, length-append us vs);
+  found = stopped.stands ∙ ap (λ (ws : List Write). start ++ ws) (sym front);
   repo = l.done.run.repo;
-  there = ap (λ (ws : List Write). known name (after ws [])) (ap (λ (ws : List Write). start ++ ws) front ∙ sym stopped.stands) ∙ l.done.run.there;
+  there = l.done.run.there;
   prints = subst (λ (ws : List Write). PrintsRun moment l.done.run.repo ws text) (rest ∙ (sym (drop_at us vs (length us) refl) ∙ ap (drop (length us)) (sym stopped.plan))) l.done.prints;
 }
   where
-    whole : new ≡ start ++ steps (given moment items) first
+    whole : new ≡ start ++ steps g first
     whole = resumed.all ∙ ap (λ (ws : List Write). start ++ ws) (sym stopped.plan)
 
-    front : take (length us) (steps (given moment items) first) ≡ us
+    front : take (length us) (steps g first) ≡ us
     front = ap (take (length us)) stopped.plan ∙ take_at us vs (length us) refl
 
     rest : l.done.ws ≡ vs
     rest = append_cancel_left (start ++ us) l.done.ws vs (sym (ap (λ (ws : List Write). ws ++ l.done.ws) stopped.stands) ∙ (sym l.done.all ∙ (same ∙ (resumed.all ∙ sym (append_assoc start us vs)))))
 
 -- the same of a run that may have been refused
-pub finished_from : (r : Result (List ℕ) RunError) (limit : ℕ) (exit : Past) (tells : Type 0) (files : List NamedFile) (name : List ℕ) (moment : ℕ) (start : List Write) (first : Repo) (items : List Item) (us vs old new : List Write)
-    → IsStoppedRun (given moment items) name start first us vs old → OnOk r (IsResumed (given moment items) name start first us vs new) → IfOk r (IsRunDone tells files name moment old new)
-    → OnOk r (IsAtRest limit exit (map spelling new)) → IfOk r (IsFinished limit exit name moment start first items)
-finished_from (Ok text) limit exit tells files name moment start first items us vs old new stopped resumed done rest =
-    finished limit exit tells files name moment start first items us vs old new text stopped resumed (record { new = new; done = done; at_rest = rest }) refl
-finished_from (Err e) limit exit tells files name moment start first items us vs old new stopped resumed done rest = tt
+pub finished_from : (r : Result (List ℕ) RunError) (limit : ℕ) (exit : Past) (tells : Type 0) (files : List NamedFile) (name : List ℕ) (moment : ℕ) (start : List Write) (first : Repo) (g : Given) (us vs old new : List Write)
+    → IsStoppedRun g name start first us vs old → OnOk r (IsResumed g name start first us vs new) → IfOk r (IsRunDone tells files name moment old new)
+    → OnOk r (IsAtRest limit exit (map spelling new)) → OnOk r (length_of new ≤ limit) → IfOk r (IsFinished limit exit name moment start first g old)
+finished_from (Ok text) limit exit tells files name moment start first g us vs old new stopped resumed done rest room =
+    finished limit exit tells files name moment start first g us vs old new text stopped resumed (record { new = new; done = done; at_rest = rest; room = room }) refl
+finished_from (Err e) limit exit tells files name moment start first g us vs old new stopped resumed done rest room = tt
+
+-- the room of a journal, within its limit
+pub room_at : (ws : List Write) (n limit : ℕ) → n ≡ limit → length_of ws ≤ n → length_of ws ≤ limit
+room_at ws n limit same most = subst (λ (m : ℕ). length_of ws ≤ m) same most
+
+-- a run that leaves the disk at rest
+pub leaves_run : (r : Result (List ℕ) RunError) (tells : Type 0) (files : List NamedFile) (name : List ℕ) (moment limit : ℕ) (old new : List Write) (exit : Past) → IfOk r (IsRunDone tells files name moment old new)
+    → OnOk r (IsAtRest limit exit (map spelling new)) → OnOk r (length_of new ≤ limit) → IfOk r (LeavesRun tells files name moment limit old exit)
+leaves_run (Ok text) tells files name moment limit old new exit done rest room = record { new = new; done = done; at_rest = rest; room = room }
+leaves_run (Err e) tells files name moment limit old new exit done rest room = tt
 
 -- ---- a run over a disk
 
@@ -143,42 +162,58 @@ refused_ended : (r : Result (List ℕ) RunError) (files : List NamedFile) (name 
 refused_ended (Ok text) files name moment limit file old stored r = tt
 refused_ended (Err e) files name moment limit file old stored r = caused_in files name moment limit file old stored e r
 
+no_fault : (e : RunError) → ended (Err e) ≡ Err (Ended FolderFault) → e ≡ FolderFault
+no_fault e same = cc
+
 module _ (folder_tells disk_tells : Type 0) (files : List NamedFile) (file : List ℕ) (entry mid exit : Past) (name : List ℕ) (moment : ℕ) (old : List Write) (r : Result (List ℕ) RunError)
     (keeps : KeepsReadings 268435456 entry mid) (reading : disk_tells → IsReadingNow 268435456 entry (map spelling old)) (stored : disk_tells → IsStored 268435456 file old)
-    (told : (t : ℕ) (c : Image) → exit.left t c → disk_tells) (fits : AllByRecursion IsWellFormed old) (later : mid.moment ≤ exit.moment)
+    (told : (t : ℕ) (c : Image) → exit.left t c → disk_tells) (fits : AllByRecursion IsWellFormed old) (any : BeginsOrStays 268435456 (IsRun folder_tells files name moment) mid exit old)
+    (unknown : known name (after old []) ≡ None → IsErrOf r UnknownRepo ⊎ IsErrOf r Memory)
     (unwritten : IfErr r (λ error. error ≢ DiskFault → LeavesWrites 268435456 mid exit (λ ws. ws ≡ old))) (ran : IfOk r (LeavesRun folder_tells files name moment 268435456 old exit))
     (refused : folder_tells → IfErr r (IfCaused (IsRepoRefusal files name moment 268435456 old)))
-    (resumed : folder_tells → (start : List Write) (first : Repo) (items : List Item) (us vs : List Write) → AreItemsOf folder_tells files first.files items → IsStoppedRun (given moment items) name start first us vs old
-    → IfOk r (IsFinished 268435456 exit name moment start first items))
-    (resumed_any : folder_tells → (start : List Write) (first : Repo) (items : List Item) (us vs : List Write) → AreItemsOf folder_tells files first.files items → IsStoppedRun (given moment items) name start first us vs old
+    (resumed : folder_tells → (start : List Write) (first : Repo) (g : Given) (us vs : List Write) → IsGiven folder_tells files first.files moment g → IsStoppedRun g name start first us vs old
+    → IfOk r (IsFinished 268435456 exit name moment start first g old))
+    (resumed_any : folder_tells → (start : List Write) (first : Repo) (g : Given) (us vs : List Write) → IsGiven folder_tells files first.files moment g → IsStoppedRun g name start first us vs old
     → LeavesWrites 268435456 mid exit (IsFront start (us ++ vs) (length us))) where
-  wished : (start : List Write) (first : Repo) (items : List Item) → IsBegun files name start first items → AreItemsOf folder_tells files first.files items
-  wished start first items begun =
-      let are = begun.are_items in
-      record { picked = are.picked; fit = are.fit; gathered = λ t. are.gathered tt; desired = are.desired }
+  abbrev over : List Write → List Write → Type 0
+  over = IsRun folder_tells files name moment
 
-  here : (start : List Write) (first : Repo) (items : List Item) (least : ℕ) → disk_tells → ReadsFront 268435456 entry start (steps (given moment items) first) least → IsFront start (steps (given moment items) first) least old
-  here start first items least d reads = found_front 268435456 entry start (steps (given moment items) first) least reads old fits (reading d)
+  wished : (start : List Write) (first : Repo) (g : Given) → IsBegun files name moment start first g → IsGiven folder_tells files first.files moment g
+  wished start first g begun = given_under (Unit {0}) folder_tells files first.files moment g (λ t. tt) begun.is_given
+
+  here : (start : List Write) (first : Repo) (g : Given) (least : ℕ) → disk_tells → ReadsFront 268435456 entry start (steps g first) least → IsFront start (steps g first) least old
+  here start first g least d reads = found_front 268435456 entry start (steps g first) least reads old fits (reading d)
 
   kept_unwritten : (q : Result (List ℕ) RunError) → IfErr q (λ error. error ≢ DiskFault → LeavesWrites 268435456 mid exit (λ ws. ws ≡ old)) → IfErr (ended q) (λ refusal. refusal ≢ Ended DiskFault → KeepsReadings 268435456 entry exit)
   kept_unwritten (Ok text) u = tt
   kept_unwritten (Err e) u = λ ne. keeps_still 268435456 disk_tells entry mid exit old keeps reading told (u (λ same. ne (ap Ended same)))
 
+  -- a fault of the folder, where the repository is there
+  there_at : (o : Option Repo) → known name (after old []) ≡ o → IsErrOf (ended r) (Ended FolderFault) → disk_tells → HasRepo name 268435456 file
+  there_at (Some repo) is fault d = record { old = old; stored = stored d; repo = repo; there = is }
+  there_at None is fault d = by r (unknown is) fault
+    where
+      by : (q : Result (List ℕ) RunError) → IsErrOf q UnknownRepo ⊎ IsErrOf q Memory → IsErrOf (ended q) (Ended FolderFault) → HasRepo name 268435456 file
+      by q (inl e) f = absurd (let same : UnknownRepo ≡ FolderFault = no_fault UnknownRepo (ap ended (sym e) ∙ f) in cc same)
+      by q (inr e) f = absurd (let same : Memory ≡ FolderFault = no_fault Memory (ap ended (sym e) ∙ f) in cc same)
+
   pub runs_of : Runs folder_tells files disk_tells file entry exit name moment (ended r)
   runs_of = record {
-    stops = λ start first items least t begun reads.
-        let W = steps (given moment items) first in
-        then_front 268435456 entry start W least reads mid exit keeps (told_run 268435456 disk_tells mid exit (SpellsFront start W least) told later (λ d.
-        let f = here start first items least d reads in
+    begins = told_call 268435456 over entry mid exit disk_tells old keeps reading told any;
+    stops = λ start first g least t begun reads.
+        let W = steps g first in
+        then_front 268435456 entry start W least reads mid exit keeps (told_run 268435456 disk_tells mid exit (SpellsFront start W least) told (begins_later 268435456 over mid exit old any) (λ d.
+        let f = here start first g least d reads in
         front_weaker 268435456 mid exit start W least f.count f.at_least f.at_most
-        (resumed_any t start first items (take f.count W) (drop f.count W) (wished start first items begun) (stopped_at moment name start first items least old begun.there f))));
-    finished = λ start first items least t d begun reads.
-        let W = steps (given moment items) first in
-        let f = here start first items least d reads in
-        ok_ended r _ _ (λ text h. h) (resumed t start first items (take f.count W) (drop f.count W) (wished start first items begun) (stopped_at moment name start first items least old begun.there f));
+        (resumed_any t start first g (take f.count W) (drop f.count W) (wished start first g begun) (stopped_at name start first g least old begun.there f))));
+    finished = λ start first g least t d begun reads.
+        let W = steps g first in
+        let f = here start first g least d reads in
+        ok_ended r _ _ (λ text h. record { old = old; stored = stored d; reading = reading d; finished = h }) (resumed t start first g (take f.count W) (drop f.count W) (wished start first g begun) (stopped_at name start first g least old begun.there f));
     unwritten = kept_unwritten r unwritten;
-    done = λ d. ok_ended r _ _ (λ text leaves. record { old = old; stored = stored d; leaves = leaves }) ran;
+    done = λ d. ok_ended r _ _ (λ text leaves. record { old = old; stored = stored d; reading = reading d; leaves = leaves }) ran;
     refused = λ t d. refused_ended r files name moment 268435456 file old (stored d) (refused t);
+    folder = λ d fault. there_at (known name (after old [])) refl fault d;
   }
 
 -- the same of an answer that is this one
@@ -192,23 +227,32 @@ start_refused files name moment limit file start_fault refusal is r = subst (IsN
 start_refused files name moment limit file (start_damaged offset) refusal is r = subst (IsNotRun files name moment limit file) (sym is) r
 start_refused files name moment limit file start_memory refusal is r = subst (IsNotRun files name moment limit file) (sym is) tt
 
+start_folder : (error : StartError) (refusal : RunRefusal) → IsStartRefusal error refusal → ¬ (refusal ≡ Ended FolderFault)
+start_folder start_fault refusal is same = let both : Ended DiskFault ≡ Ended FolderFault = sym is ∙ same in absurd (cc both)
+start_folder (start_damaged offset) refusal is same = let both : NotAJournal offset ≡ Ended FolderFault = sym is ∙ same in absurd (cc both)
+start_folder start_memory refusal is same = let both : Ended Memory ≡ Ended FolderFault = sym is ∙ same in absurd (cc both)
+
 pub runs_refused : (folder_tells : Type 0) (files : List NamedFile) (disk_tells : Type 0) (file : List ℕ) (entry exit : Past) (name : List ℕ) (moment : ℕ) (error : StartError) (refusal : RunRefusal) → KeepsReadings 268435456 entry exit
     → IsStartRefusal error refusal → (disk_tells → IsStoreRefusal 268435456 file error) → Runs folder_tells files disk_tells file entry exit name moment (Err refusal)
 runs_refused folder_tells files disk_tells file entry exit name moment error refusal keeps is r = record {
-  stops = λ start first items least t begun reads. kept_front 268435456 entry start (steps (given moment items) first) least reads exit keeps;
-  finished = λ start first items least t d begun reads. tt;
+  begins = keeps_begins 268435456 (IsRun folder_tells files name moment) entry exit keeps;
+  stops = λ start first g least t begun reads. kept_front 268435456 entry start (steps g first) least reads exit keeps;
+  finished = λ start first g least t d begun reads. tt;
   unwritten = λ ne. keeps;
   done = λ d. tt;
   refused = λ t d. start_refused files name moment 268435456 file error refusal is (r d);
+  folder = λ d fault. absurd (start_folder error refusal is (let same : refusal ≡ Ended FolderFault = cc fault in same));
 }
 
 -- nothing was done, for want of memory
 pub runs_none : (folder_tells : Type 0) (files : List NamedFile) (disk_tells : Type 0) (file : List ℕ) (entry exit : Past) (name : List ℕ) (moment : ℕ) → KeepsReadings 268435456 entry exit
     → Runs folder_tells files disk_tells file entry exit name moment (Err (Ended Memory))
 runs_none folder_tells files disk_tells file entry exit name moment keeps = record {
-  stops = λ start first items least t begun reads. kept_front 268435456 entry start (steps (given moment items) first) least reads exit keeps;
-  finished = λ start first items least t d begun reads. tt;
+  begins = keeps_begins 268435456 (IsRun folder_tells files name moment) entry exit keeps;
+  stops = λ start first g least t begun reads. kept_front 268435456 entry start (steps g first) least reads exit keeps;
+  finished = λ start first g least t d begun reads. tt;
   unwritten = λ ne. keeps;
   done = λ t. tt;
   refused = λ t d. tt;
+  folder = λ d fault. absurd (cc fault);
 }

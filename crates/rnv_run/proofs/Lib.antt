@@ -1,8 +1,9 @@
+pub mod Begun
 pub mod Branches
 pub mod Numbers
 pub mod Disks
+pub mod Exact
 pub mod Wanted
 pub mod Refused
 pub mod Stored
-pub mod Three
 pub mod Turns

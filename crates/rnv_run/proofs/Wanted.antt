@@ -1,16 +1,13 @@
--- The items that the base of a repository wants, and why there are none.
-use Rattle.std.proofs.Common.{◌≡◌, ◌≢◌, ◌∷◌, false, append_assoc, inl, inr, ℕ, List, [], ◌++◌, length, Some, Result, Ok, Err, IfErr, IfOk, OnOk, codes, refl, sym, ap, subst, ◌∙◌, arith}
-use Rattle.std.specs.List.{AllByRecursion, AllZip}
-use Rattle.std.specs.Str.{bytes_eq}
+-- What the base of a repository is given, and why it is given nothing.
+use Rattle.std.proofs.Common.{◌≡◌, ◌≢◌, ◌⊎◌, append_assoc, inl, inr, ℕ, List, [], ◌++◌, length, None, Some, Result, Ok, Err, IfErr, IfOk, IsErrOf, OnOk, codes, refl, sym, ap, subst, ◌∙◌, arith}
+use Rattle.std.specs.List.{AllByRecursion}
 use Rattle.std.proofs.lemmas.List.{length-append, take_at}
 use Rattle.rnv_base.specs.Files.{NamedFile}
-use Rattle.rnv_desired.specs.Desired.{AreDesired, IsItemOf}
-use Rattle.rnv_desired.specs.Kept.{kept_updates}
-use Rattle.rnv_desired.proofs.Made.{branch-of, distinct, edits-order, files-made}
-use Rattle.rnv_desired.proofs.OneDesired.{desired_is_one}
+use Rattle.rnv_desired.specs.Desired.{AreDesired}
+use Rattle.rnv_desired.specs.Givens.{IsGiven}
+use Rattle.rnv_desired.proofs.Apart.{given_fit, one_given}
 use Rattle.rnv_disk.specs.Stops.{Past}
 use Rattle.rnv_forge.specs.Files.{MarkedFile}
-use Rattle.rnv_forge.specs.Named.{IsRisingBy}
 use Rattle.rnv_forge.specs.Store.{ArePermitted, IsSound, after, known}
 use Rattle.rnv_forge.specs.WellFormed.{AreInOrder, IsWellFormed}
 use Rattle.rnv_forge.specs.declared.repo.Repo.{Repo}
@@ -19,24 +16,25 @@ use Rattle.rnv_outcome.proofs.Named.{all_at}
 use Rattle.rnv_outcome.proofs.OneWrite.{runs, whole_run}
 use Rattle.rnv_outcome.specs.declared.item.Item.{Item}
 use Rattle.rnv_outcome.specs.Given.{Given}
-use Rattle.rnv_outcome.specs.Items.{files_of}
-use Rattle.rnv_outcome.specs.Law.{HaveDistinct, IsFit, after_in}
+use Rattle.rnv_outcome.specs.Items.{edited_files}
+use Rattle.rnv_outcome.specs.Law.{IsFit, after_in}
 use Rattle.rnv_outcome.specs.Outcome.{IsOutcome}
 use Rattle.rnv_outcome.specs.Steps.{steps}
-use Rattle.rnv_plan.specs.declared.item.Item.{Item as Group}
 use Rattle.rnv_plan.specs.declared.error.RunError.{RunError}
 use Rattle.rnv_plan.specs.declared.error.RunError.TheVariants.{Memory, FolderFault, DiskFault, UnknownRepo, NotBuilt, Limit, IndexRefused}
 use Rattle.rnv_plan.specs.declared.inputs.PickedFile.{PickedFile}
+use Rattle.rnv_plan.specs.Gather.{AreFit, IsGathered}
 use Rattle.rnv_plan.specs.Refusal.{IfTold}
-use Rattle.rnv_plan.proofs.Bases.{picked-of}
-use Rattle.rnv_steps.specs.Stage.{HaveBranches, given}
+use Rattle.rnv_steps.specs.declared.terms.Terms.{Terms}
+use Rattle.rnv_steps.specs.Told.{HaveBranches, IsTold}
 use Rattle.rnv_store.specs.Forge.{LeavesWrites}
 use Rattle.rnv_store.proofs.Uses.{leaves_weaker}
 use Rattle.rnv_run.specs.Front.{IsFront}
-use Rattle.rnv_run.specs.Repository.{AreItemsOf, IfCaused, IsOldOrStopped, IsRepoRefusal, IsRun, IsRunDone, IsUnwanted, no_items, no_repo, no_room, of_base, unknown}
+use Rattle.rnv_run.specs.Repository.{IfCaused, IsRepoRefusal, IsRun, IsRunDone, IsUnwanted, no_items, no_repo, no_room, of_base, unknown}
 use Rattle.rnv_run.specs.Run.{IsRunRefusal, IsStoppedRun, IsUnknown, LeavesOutcome}
+use Rattle.rnv_run.specs.Stage.{IsPlain, given_by, plain_terms}
 use Rattle.rnv_run.specs.Text.{PrintsRun}
-use Rattle.rnv_run.proofs.Stored.{fit, same_repo, sound_after}
+use Rattle.rnv_run.proofs.Stored.{same_repo, sound_after}
 
 -- the files of a repository that is found
 pub found_order : (repo : Repo) (old more : List Write) → AllByRecursion IsWellFormed (old ++ more) → ArePermitted (old ++ more) [] → known repo.name (after old []) ≡ Some repo → AreInOrder (λ f. f.path) repo.files
@@ -71,6 +69,15 @@ module _ (name : List ℕ) (ws : List Write) where
   unknown_folder (NotBuilt path) u e = absurd u
   unknown_folder (Limit which number) u e = absurd u
   unknown_folder (IndexRefused file line) u e = absurd u
+
+  pub unknown_first : {T : Type 0} (r : Result T RunError) (error : RunError) → r ≡ Err error → IsUnknown name ws error → IsErrOf r UnknownRepo ⊎ IsErrOf r Memory
+  unknown_first r Memory is u = inr is
+  unknown_first r FolderFault is u = absurd u
+  unknown_first r DiskFault is u = absurd u
+  unknown_first r UnknownRepo is u = inl is
+  unknown_first r (NotBuilt path) is u = absurd u
+  unknown_first r (Limit which number) is u = absurd u
+  unknown_first r (IndexRefused file line) is u = absurd u
 
 -- ---- refusals of a run
 
@@ -107,57 +114,69 @@ if_err (Err e) P Q f p = f e p
 
 -- ---- a run that was done
 
-pub run_done : (r : Result (List ℕ) RunError) (tells : Type 0) (files : List NamedFile) (name : List ℕ) (moment : ℕ) (old new ws : List Write) (run : IsRun tells files name moment old ws)
-    → OnOk r (new ≡ old ++ ws) → OnOk r (LeavesOutcome (given moment run.items) name run.repo new) → IfOk r (PrintsRun moment run.repo ws) → IfOk r (IsRunDone tells files name moment old new)
-run_done (Ok text) tells files name moment old new ws run all leaves prints = record { ws = ws; run = run; all = all; leaves = leaves; prints = prints }
-run_done (Err e) tells files name moment old new ws run all leaves prints = tt
+pub run_done : (r : Result (List ℕ) RunError) (tells : Type 0) (files : List NamedFile) (name : List ℕ) (moment at : ℕ) (old new ws : List Write) (run : IsRun tells files name moment old ws) → at ≡ moment
+    → OnOk r (new ≡ old ++ ws) → OnOk r (LeavesOutcome run.given name run.repo new) → IfOk r (PrintsRun at run.repo ws) → IfOk r (IsRunDone tells files name moment old new)
+run_done (Ok text) tells files name moment at old new ws run same all leaves prints =
+    record { ws = ws; run = run; all = all; leaves = leaves; prints = subst (λ (m : ℕ). PrintsRun m run.repo ws text) same prints }
+run_done (Err e) tells files name moment at old new ws run same all leaves prints = tt
 
 pub on_ok : {T : Type 0} (r : Result T RunError) (P Q : Type 0) → (P → Q) → OnOk r P → OnOk r Q
 on_ok (Ok x) P Q f p = f p
 on_ok (Err e) P Q f p = tt
 
--- ---- what is wanted is fit for a run
+pub on_both : {T : Type 0} (r : Result T RunError) (P Q R : Type 0) → (P → Q → R) → OnOk r P → OnOk r Q → OnOk r R
+on_both (Ok x) P Q R f p q = f p q
+on_both (Err e) P Q R f p q = tt
 
-module _ (files : List MarkedFile) (picked : List PickedFile) where
-  named_as : (g : Group) (i : Item) → IsItemOf files picked g i → i.branch ≡ g.branch
-  named_as g i is = ap (λ (j : Item). j.branch) is.same ∙ branch-of g is.edits
+-- ---- what is given
 
-  others_apart : (g : Group) (i : Item) (gs : List Group) (is : List Item) → IsItemOf files picked g i → AllZip (IsItemOf files picked) gs is
-      → AllByRecursion (λ h. bytes_eq g.branch h.branch ≡ false) gs → AllByRecursion (λ j. bytes_eq i.branch j.branch ≡ false) is
-  others_apart g i [] [] here each apart = tt
-  others_apart g i [] (j ∷ is) here each apart = absurd each
-  others_apart g i (h ∷ gs) [] here each apart = absurd each
-  others_apart g i (h ∷ gs) (j ∷ is) here each apart =
-      (ap (λ n. bytes_eq n j.branch) (named_as g i here) ∙ (ap (bytes_eq g.branch) (named_as h j each.0) ∙ apart.0), others_apart g i gs is here each.1 apart.1)
+-- the terms of a run without limits
+pub terms_told : (repo : Repo) (t : Terms) (moment : ℕ) (items : List Item) → t ≡ plain_terms moment → IsTold (given_by t.moment items) repo t items
+terms_told repo t moment items is = record { terms = is ∙ ap plain_terms (sym (ap (λ (u : Terms). u.moment) is)); all = refl }
 
-  all_apart : (gs : List Group) (is : List Item) → AllZip (IsItemOf files picked) gs is → HaveDistinct (λ g. g.branch) gs → HaveDistinct (λ i. i.branch) is
-  all_apart [] [] each names = tt
-  all_apart [] (i ∷ is) each names = absurd each
-  all_apart (g ∷ gs) [] each names = absurd each
-  all_apart (g ∷ gs) (i ∷ is) each names = (others_apart g i gs is each.0 each.1 names.0, all_apart gs is each.1 names.1)
+pub plain_fit : (moment : ℕ) (items : List Item) → HaveBranches items → AllByRecursion (λ i. AreInOrder (λ f. f.path) (edited_files i.edits)) items → IsFit (given_by moment items)
+plain_fit moment items apart ordered = record { distinct = apart; files = ordered; unticked = λ all. refl }
 
-  pub desired_apart : (items : List Item) → AreDesired files picked items → HaveBranches items
-  desired_apart items d = all_apart d.groups items d.each (distinct (kept_updates picked) d.groups d.few.are_items)
+pub plain_given : (moment : ℕ) (items : List Item) → IsPlain (given_by moment items)
+plain_given moment items = record { files = λ i. refl; problem = λ i. refl; page = λ all. refl }
 
-  module _ (order : AreInOrder (λ f. f.path) files) (rising : IsRisingBy (λ p. p.path) picked) where
-    all_ordered : (gs : List Group) (is : List Item) → AllZip (IsItemOf files picked) gs is → AllByRecursion (λ i. AreInOrder (λ f. f.path) (files_of i)) is
-    all_ordered [] [] each = tt
-    all_ordered [] (i ∷ is) each = absurd each
-    all_ordered (g ∷ gs) [] each = absurd each
-    all_ordered (g ∷ gs) (i ∷ is) each =
-        let here = ap files_of each.0.same ∙ files-made files picked g each.0.edits in
-        (subst (AreInOrder (λ f. f.path)) (sym here) (edits-order files picked order rising g.branch each.0.edits each.0.are_edits), all_ordered gs is each.1)
+pub given_here : (tells : Type 0) (files : List NamedFile) (base : List MarkedFile) (moment at : ℕ) (picked : List PickedFile) (items : List Item) → AreFit base picked → (tells → IsGathered files base picked) → AreDesired base picked items → at ≡ moment
+    → IsGiven tells files base moment (given_by at items)
+given_here tells files base moment at picked items fit gathered desired same = record {
+  picked = picked;
+  fit = fit;
+  gathered = gathered;
+  desired = desired;
+  at = same;
+  hourly = refl;
+  concurrent = refl;
+  branches = refl;
+  heedless = refl;
+  edits = λ i. refl;
+  problem = λ i. refl;
+  ticks = λ page. refl;
+  page = λ all. refl;
+}
 
-    pub desired_ordered : (items : List Item) → AreDesired files picked items → AllByRecursion (λ i. AreInOrder (λ f. f.path) (files_of i)) items
-    desired_ordered items d = all_ordered d.groups items d.each
+-- the same where the folder tells its files under another premise
+pub given_under : (one other : Type 0) (files : List NamedFile) (base : List MarkedFile) (moment : ℕ) (g : Given) → (other → one) → IsGiven one files base moment g → IsGiven other files base moment g
+given_under one other files base moment g told is = record {
+  picked = is.picked;
+  fit = is.fit;
+  gathered = λ t. is.gathered (told t);
+  desired = is.desired;
+  at = is.at;
+  hourly = is.hourly;
+  concurrent = is.concurrent;
+  branches = is.branches;
+  heedless = is.heedless;
+  edits = is.edits;
+  problem = is.problem;
+  ticks = is.ticks;
+  page = is.page;
+}
 
--- ---- one list of items
-
--- a base wants one list of items of told files
-pub one_items : (files : List NamedFile) (base : List MarkedFile) (tells : Type 0) (xs ys : List Item) → tells → AreItemsOf tells files base xs → AreItemsOf tells files base ys → xs ≡ ys
-one_items files base tells xs ys t a b =
-    let picked : a.picked ≡ b.picked = picked-of [] files base a.picked b.picked (a.gathered t) (b.gathered t) in
-    desired_is_one base b.picked xs ys (subst (λ (ps : List PickedFile). AreDesired base ps xs) picked a.desired) b.desired
+-- ---- what is given is one
 
 -- the first writes of a run leave the base
 same_base : (g : Given) (first : Repo) (us vs : List Write) → IsFit g → IsSound first → steps g first ≡ us ++ vs → (after_in us first).files ≡ first.files
@@ -168,9 +187,9 @@ same_base g first us vs is_fit sound e =
     let left : IsOutcome g (after_in us first) out = (law.outcome out).1 whole in
     sym left.files ∙ whole.files
 
-module _ (moment : ℕ) (tells : Type 0) (files : List NamedFile) (name : List ℕ) (repo : Repo) (items wishes : List Item) (old more : List Write) (fits : AllByRecursion IsWellFormed (old ++ more))
-    (permitted : ArePermitted (old ++ more) []) (there : known repo.name (after old []) ≡ Some repo) (named : repo.name ≡ name) (are : AreItemsOf tells files repo.files items)
-    (start : List Write) (first : Repo) (us vs : List Write) (wish : AreItemsOf tells files first.files wishes) (s : IsStoppedRun (given moment wishes) name start first us vs old) where
+module _ (moment : ℕ) (tells : Type 0) (files : List NamedFile) (name : List ℕ) (repo : Repo) (h g : Given) (old more : List Write) (fits : AllByRecursion IsWellFormed (old ++ more))
+    (permitted : ArePermitted (old ++ more) []) (there : known repo.name (after old []) ≡ Some repo) (named : repo.name ≡ name) (are : IsGiven tells files repo.files moment h)
+    (start : List Write) (first : Repo) (us vs : List Write) (wish : IsGiven tells files first.files moment g) (s : IsStoppedRun g name start first us vs old) (t : tells) where
   joined : old ++ more ≡ start ++ (us ++ more)
   joined = ap (λ (l : List Write). l ++ more) s.stands ∙ append_assoc start us more
 
@@ -179,45 +198,36 @@ module _ (moment : ℕ) (tells : Type 0) (files : List NamedFile) (name : List �
       all_at (λ (r : Repo). r.name) IsSound name (after start []) first
       (sound_after start (us ++ more) (subst (λ (l : List Write). AllByRecursion IsWellFormed l) joined fits) (subst (λ (l : List Write). ArePermitted l []) joined permitted)).each s.there
 
-  apart : HaveBranches wishes
-  apart = desired_apart first.files wish.picked wishes wish.desired
+  told_wish : IsGiven (Unit {0}) files first.files moment g
+  told_wish = given_under tells (Unit {0}) files first.files moment g (λ u. t) wish
 
-  ordered : AllByRecursion (λ i. AreInOrder (λ f. f.path) (files_of i)) wishes
-  ordered = desired_ordered first.files wish.picked first_is_sound.files wish.fit.rising wishes wish.desired
+  is_fit : IsFit g
+  is_fit = given_fit files first.files moment g first_is_sound.files told_wish
 
-  stopped_here : IsStoppedRun (given moment wishes) repo.name start first us vs old
-  stopped_here = subst (λ (n : List ℕ). IsStoppedRun (given moment wishes) n start first us vs old) (sym named) s
+  stopped_here : IsStoppedRun g repo.name start first us vs old
+  stopped_here = subst (λ (n : List ℕ). IsStoppedRun g n start first us vs old) (sym named) s
 
   base : repo.files ≡ first.files
   base =
-      ap (λ (r : Repo). r.files) (same_repo moment wishes apart ordered repo old more fits permitted there start first us vs stopped_here)
-      ∙ same_base (given moment wishes) first us vs (fit moment wishes apart ordered) first_is_sound s.plan
+      ap (λ (r : Repo). r.files) (same_repo g is_fit repo old more fits permitted there start first us vs stopped_here)
+      ∙ same_base g first us vs is_fit first_is_sound s.plan
 
-  -- the items of the earlier run are those of this one
-  pub same_items : tells → items ≡ wishes
-  same_items t = one_items files first.files tells items wishes t (subst (λ (fs : List MarkedFile). AreItemsOf tells files fs items) base are) wish
+  -- the earlier run was given the same as this one
+  pub same_given : h ≡ g
+  same_given = one_given files first.files moment h g (subst (λ (fs : List MarkedFile). IsGiven (Unit {0}) files fs moment h) base (given_under tells (Unit {0}) files repo.files moment h (λ u. t) are)) told_wish
 
-  pub stopped_items : tells → IsStoppedRun (given moment items) repo.name start first us vs old
-  stopped_items t = subst (λ (is : List Item). IsStoppedRun (given moment is) repo.name start first us vs old) (sym (same_items t)) stopped_here
+  pub stopped_given : IsStoppedRun h repo.name start first us vs old
+  stopped_given = subst (λ (f : Given). IsStoppedRun f repo.name start first us vs old) (sym same_given) stopped_here
 
--- the same of other items and another name
-pub carried : (P : List Item → List ℕ → Type 0) (items wishes : List Item) (from name : List ℕ) → items ≡ wishes → from ≡ name → P items from → P wishes name
-carried P items wishes from name e n p = subst (λ (m : List ℕ). P wishes m) n (subst (λ (is : List Item). P is from) e p)
+-- the same of what was given and another name
+pub carried : (P : Given → List ℕ → Type 0) (h g : Given) (from name : List ℕ) → h ≡ g → from ≡ name → P h from → P g name
+carried P h g from name e n p = subst (λ (m : List ℕ). P g m) n (subst (λ (f : Given). P f from) e p)
 
 -- ---- stops
 
-pub old_or_stopped : (tells : Type 0) (files : List NamedFile) (name : List ℕ) (moment : ℕ) (old ws : List Write) → IsRun tells files name moment old ws → (limit : ℕ) (past new : Past) → LeavesWrites limit past new (IsFront old ws 0)
-    → LeavesWrites limit past new (IsOldOrStopped tells files name moment old)
-old_or_stopped tells files name moment old ws run limit past new leaves =
-    leaves_weaker limit past new (IsFront old ws 0) (IsOldOrStopped tells files name moment old) (λ list front. inr (record { ws = ws; run = run; front = front })) leaves
-
-pub old_still : (tells : Type 0) (files : List NamedFile) (name : List ℕ) (moment : ℕ) (old : List Write) (limit : ℕ) (past new : Past) → LeavesWrites limit past new (λ l. l ≡ old)
-    → LeavesWrites limit past new (IsOldOrStopped tells files name moment old)
-old_still tells files name moment old limit past new leaves = leaves_weaker limit past new (λ l. l ≡ old) (IsOldOrStopped tells files name moment old) (λ list is. inl is) leaves
-
-pub stopped_still : (moment : ℕ) (wishes : List Item) (name : List ℕ) (start : List Write) (first : Repo) (us vs old : List Write) → IsStoppedRun (given moment wishes) name start first us vs old → (limit : ℕ) (past new : Past)
+pub stopped_still : (g : Given) (name : List ℕ) (start : List Write) (first : Repo) (us vs old : List Write) → IsStoppedRun g name start first us vs old → (limit : ℕ) (past new : Past)
     → LeavesWrites limit past new (λ l. l ≡ old) → LeavesWrites limit past new (IsFront start (us ++ vs) (length us))
-stopped_still moment wishes name start first us vs old s limit past new leaves = leaves_weaker limit past new (λ l. l ≡ old) (IsFront start (us ++ vs) (length us)) each leaves
+stopped_still g name start first us vs old s limit past new leaves = leaves_weaker limit past new (λ l. l ≡ old) (IsFront start (us ++ vs) (length us)) each leaves
   where
     each : (list : List Write) → list ≡ old → IsFront start (us ++ vs) (length us) list
     each list is = record {

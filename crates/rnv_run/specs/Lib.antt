@@ -1,5 +1,7 @@
+pub mod Begun
 pub mod Front
 pub mod OnDisk
 pub mod Repository
 pub mod Run
+pub mod Stage
 pub mod Text

@@ -1,5 +1,5 @@
 -- What a run makes of the store on a disk.
-use Rattle.std.specs.Prelude.{◌≡◌, ◌≢◌, ◌≤◌, ℕ, List, [], ◌++◌, length, take, drop, map, Some, Result, Ok, Err, IfErr, IfOk}
+use Rattle.std.specs.Prelude.{◌≡◌, ◌≢◌, ◌≤◌, ℕ, List, [], ◌++◌, length, take, drop, map, Some, Result, Ok, Err, IfErr, IfOk, IsErrOf}
 use Rattle.rnv_base.specs.Files.{NamedFile}
 use Rattle.rnv_commands.specs.OnDisk.{IsDamaged, IsStored}
 use Rattle.rnv_disk.specs.Stops.{Past}
@@ -9,17 +9,18 @@ use Rattle.rnv_forge.specs.declared.write.Write.{Write}
 use Rattle.rnv_journal.specs.Readings.{HasReadingsNow, IsAtRest, IsReadingNow, KeepsReadings, ReadsOnly}
 use Rattle.rnv_journal.specs.declared.start.StartError.{StartError}
 use Rattle.rnv_journal.specs.declared.start.StartError.TheVariants.{DiskFault as start_fault, NotAJournal as start_damaged, Memory as start_memory}
-use Rattle.rnv_outcome.specs.declared.item.Item.{Item}
+use Rattle.rnv_desired.specs.Givens.{IsGiven}
+use Rattle.rnv_outcome.specs.Given.{Given}
 use Rattle.rnv_outcome.specs.Steps.{steps}
 use Rattle.rnv_payload.specs.Spelling.{spelling}
 use Rattle.rnv_plan.specs.declared.error.RunError.{RunError}
-use Rattle.rnv_plan.specs.declared.error.RunError.TheVariants.{Memory, DiskFault}
-use Rattle.rnv_steps.specs.Stage.{given}
-use Rattle.rnv_store.specs.Forge.{SpellSome}
+use Rattle.rnv_plan.specs.declared.error.RunError.TheVariants.{Memory, FolderFault, DiskFault}
+use Rattle.rnv_store.specs.Writes.{length_of}
 use Rattle.rnv_run.specs.declared.on_disk.RunRefusal.{RunRefusal}
 use Rattle.rnv_run.specs.declared.on_disk.RunRefusal.TheVariants.{NotAJournal, Ended}
-use Rattle.rnv_run.specs.Front.{IsFront}
-use Rattle.rnv_run.specs.Repository.{AreItemsOf, IfCaused, IsRepoRefusal, IsRunDone}
+use Rattle.rnv_run.specs.Begun.{LeavesOf}
+use Rattle.rnv_run.specs.Front.{SpellsFront}
+use Rattle.rnv_run.specs.Repository.{IfCaused, IsRepoRefusal, IsRun, IsRunDone}
 use Rattle.rnv_run.specs.Run.{LeavesOutcome}
 use Rattle.rnv_run.specs.Text.{PrintsRun}
 
@@ -41,11 +42,13 @@ pub record LeavesRun (tells : Type 0) (files : List NamedFile) (name : List ℕ)
   pub new : List Write
   pub done : IsRunDone tells files name moment old new text
   pub at_rest : IsAtRest limit exit (map spelling new)
+  pub room : length_of new ≤ limit
 
--- a run over the store of a file
-pub record HasRun (tells : Type 0) (files : List NamedFile) (name : List ℕ) (moment limit : ℕ) (file : List ℕ) (exit : Past) (text : List ℕ) : Type 0 where
+-- a run over the store of a file, which a start reads on entry
+pub record HasRun (tells : Type 0) (files : List NamedFile) (name : List ℕ) (moment limit : ℕ) (file : List ℕ) (entry exit : Past) (text : List ℕ) : Type 0 where
   pub old : List Write
   pub stored : IsStored limit file old
+  pub reading : IsReadingNow limit entry (map spelling old)
   pub leaves : LeavesRun tells files name moment limit old exit text
 
 -- the store of a file, for which this is the cause of a refusal
@@ -54,6 +57,13 @@ pub record IsRefusedIn (files : List NamedFile) (name : List ℕ) (moment limit 
   pub stored : IsStored limit file old
   pub cause : IsRepoRefusal files name moment limit old error
 
+-- the store of a file, with a repository of that name
+pub record HasRepo (name : List ℕ) (limit : ℕ) (file : List ℕ) : Type 0 where
+  pub old : List Write
+  pub stored : IsStored limit file old
+  pub repo : Repo
+  pub there : known name (after old []) ≡ Some repo
+
 -- why nothing is written over a file: it is no store, or the repository, its base or the journal's room are the cause
 abbrev pub IsNotRun : List NamedFile → List ℕ → ℕ → ℕ → List ℕ → RunRefusal → Type 0
 IsNotRun files name moment limit file (NotAJournal offset) = IsDamaged limit file offset
@@ -61,41 +71,48 @@ IsNotRun files name moment limit file (Ended error) = IfCaused (IsRefusedIn file
 
 -- ---- runs that are stopped and given again
 
--- the byte strings spell some writes and the first of others, at least so many
-abbrev pub SpellsFront : List Write → List Write → ℕ → List (List ℕ) → Type 0
-SpellsFront start ws least list = SpellSome (IsFront start ws least) list
-
 -- Whatever a stop at this moment leaves has readings, and each of them spells these writes and the first of the others,
 -- at least so many.
 pub record ReadsFront (limit : ℕ) (past : Past) (start ws : List Write) (least : ℕ) : Type 0 where
   pub some : HasReadingsNow limit past
   pub each : (list : List (List ℕ)) → IsReadingNow limit past list → SpellsFront start ws least list
 
--- the first run began with these writes, among them a repository of that name, whose base wanted these items
-pub record IsBegun (files : List NamedFile) (name : List ℕ) (start : List Write) (first : Repo) (items : List Item) : Type 0 where
+-- the first run began with these writes, among them a repository of that name, and this was given it
+pub record IsBegun (files : List NamedFile) (name : List ℕ) (moment : ℕ) (start : List Write) (first : Repo) (g : Given) : Type 0 where
   pub there : known name (after start []) ≡ Some first
-  pub are_items : AreItemsOf (Unit {0}) files first.files items
+  pub is_given : IsGiven (Unit {0}) files first.files moment g
 
--- All writes of the first run stand behind the old ones, with what it was to leave, and the disk is at rest at them; the text
--- is that of the last of these writes, over the repository as the others left it.
-pub record IsFinished (limit : ℕ) (exit : Past) (name : List ℕ) (moment : ℕ) (start : List Write) (first : Repo) (items : List Item) (text : List ℕ) : Type 0 where
-  pub at_rest : IsAtRest limit exit (map spelling (start ++ steps (given moment items) first))
-  pub leaves : LeavesOutcome (given moment items) name first (start ++ steps (given moment items) first)
+-- All writes of the first run stand behind those from before it, with what it was to leave, and the disk is at rest at them. Those
+-- that this call found are the first of them, and the text is that of the others, which it made, over the repository that it found.
+pub record IsFinished (limit : ℕ) (exit : Past) (name : List ℕ) (moment : ℕ) (start : List Write) (first : Repo) (g : Given) (old : List Write) (text : List ℕ) : Type 0 where
+  pub at_rest : IsAtRest limit exit (map spelling (start ++ steps g first))
+  pub leaves : LeavesOutcome g name first (start ++ steps g first)
   pub count : ℕ
-  pub at_most : count ≤ length (steps (given moment items) first)
+  pub at_most : count ≤ length (steps g first)
+  pub found : old ≡ start ++ take count (steps g first)
   pub repo : Repo
-  pub there : known name (after (start ++ take count (steps (given moment items) first)) []) ≡ Some repo
-  pub prints : PrintsRun moment repo (drop count (steps (given moment items) first)) text
+  pub there : known name (after old []) ≡ Some repo
+  pub prints : PrintsRun moment repo (drop count (steps g first)) text
 
--- A run over a disk. Where each reading on entry was left by an earlier run, whatever a stop leaves is so still, with no fewer of
--- the writes, and a text tells that all of them stand. No refusal but that of the disk has written anything.
+-- the same behind the writes that stood on entry, which a start reads of the file
+pub record HasFinished (limit : ℕ) (file : List ℕ) (entry exit : Past) (name : List ℕ) (moment : ℕ) (start : List Write) (first : Repo) (g : Given) (text : List ℕ) : Type 0 where
+  pub old : List Write
+  pub stored : IsStored limit file old
+  pub reading : IsReadingNow limit entry (map spelling old)
+  pub finished : IsFinished limit exit name moment start first g old text
+
+-- A run over a disk. From any disk that has readings it begins one run or none. Where each reading on entry was left by an earlier
+-- run, whatever a stop leaves is so still, with no fewer of the writes, and a text tells that all of them stand. No refusal but that
+-- of the disk has written anything. A fault of the folder comes only behind the start and the look-up of the repository.
 pub record Runs (folder_tells : Type 0) (files : List NamedFile) (disk_tells : Type 0) (file : List ℕ) (entry exit : Past) (name : List ℕ) (moment : ℕ) (answer : Result (List ℕ) RunRefusal) : Type 0 where
-  pub stops : (start : List Write) (first : Repo) (items : List Item) (least : ℕ) → folder_tells → IsBegun files name start first items
-      → ReadsFront 268435456 entry start (steps (given moment items) first) least
-      → ReadsOnly 268435456 entry exit (SpellsFront start (steps (given moment items) first) least)
-  pub finished : (start : List Write) (first : Repo) (items : List Item) (least : ℕ) → folder_tells → disk_tells → IsBegun files name start first items
-      → ReadsFront 268435456 entry start (steps (given moment items) first) least
-      → IfOk answer (IsFinished 268435456 exit name moment start first items)
+  pub begins : LeavesOf 268435456 (IsRun folder_tells files name moment) entry exit
+  pub stops : (start : List Write) (first : Repo) (g : Given) (least : ℕ) → folder_tells → IsBegun files name moment start first g
+      → ReadsFront 268435456 entry start (steps g first) least
+      → ReadsOnly 268435456 entry exit (SpellsFront start (steps g first) least)
+  pub finished : (start : List Write) (first : Repo) (g : Given) (least : ℕ) → folder_tells → disk_tells → IsBegun files name moment start first g
+      → ReadsFront 268435456 entry start (steps g first) least
+      → IfOk answer (HasFinished 268435456 file entry exit name moment start first g)
   pub unwritten : IfErr answer (λ refusal. refusal ≢ Ended DiskFault → KeepsReadings 268435456 entry exit)
-  pub done : disk_tells → IfOk answer (HasRun folder_tells files name moment 268435456 file exit)
+  pub done : disk_tells → IfOk answer (HasRun folder_tells files name moment 268435456 file entry exit)
   pub refused : folder_tells → disk_tells → IfErr answer (IsNotRun files name moment 268435456 file)
+  pub folder : disk_tells → IsErrOf answer (Ended FolderFault) → HasRepo name 268435456 file

@@ -1,54 +1,38 @@
--- A run of a repository of the store, for the items that its base wants.
-use Rattle.std.specs.Prelude.{◌≡◌, ◌⊎◌, ◌<◌, ℕ, List, [], ◌++◌, Some, None, codes}
+-- A run of a repository of the store, by what the folder, its base and the moment give.
+use Rattle.std.specs.Prelude.{◌≡◌, ◌<◌, ℕ, List, [], ◌++◌, Some, None, codes}
 use Rattle.rnv_base.specs.Files.{NamedFile}
-use Rattle.rnv_desired.specs.Desired.{AreDesired}
+use Rattle.rnv_desired.specs.Givens.{IsGiven}
 use Rattle.rnv_desired.specs.Kept.{kept_updates}
 use Rattle.rnv_forge.specs.Files.{MarkedFile}
 use Rattle.rnv_forge.specs.Store.{after, known}
 use Rattle.rnv_forge.specs.declared.repo.Repo.{Repo}
 use Rattle.rnv_forge.specs.declared.write.Write.{Write}
-use Rattle.rnv_outcome.specs.declared.item.Item.{Item}
+use Rattle.rnv_outcome.specs.Given.{Given}
 use Rattle.rnv_outcome.specs.Steps.{steps}
 use Rattle.rnv_plan.specs.declared.inputs.PickedFile.{PickedFile}
 use Rattle.rnv_plan.specs.declared.error.RunError.{RunError}
 use Rattle.rnv_plan.specs.declared.error.RunError.TheVariants.{Memory, FolderFault, DiskFault, UnknownRepo, NotBuilt, Limit, IndexRefused}
-use Rattle.rnv_plan.specs.Gather.{AreFit, IsGathered}
+use Rattle.rnv_plan.specs.Gather.{IsGathered}
 use Rattle.rnv_plan.specs.Plan.{HaveManyItems}
 use Rattle.rnv_plan.specs.Refusal.{IsRefusal}
-use Rattle.rnv_steps.specs.Stage.{given}
 use Rattle.rnv_store.specs.Writes.{length_of}
-use Rattle.rnv_run.specs.Front.{IsFront}
 use Rattle.rnv_run.specs.Run.{LeavesOutcome}
 use Rattle.rnv_run.specs.Text.{PrintsRun}
 
--- The items that a base wants: those of what is picked of it, which is gathered from the folder's index where the
--- folder tells its files.
-pub record AreItemsOf (tells : Type 0) (files : List NamedFile) (base : List MarkedFile) (items : List Item) : Type 0 where
-  pub picked : List PickedFile
-  pub fit : AreFit base picked
-  pub gathered : tells → IsGathered files base picked
-  pub desired : AreDesired base picked items
-
--- A run behind the writes that stand: of the repository of a name, for the items that its base wants.
+-- A run behind the writes that stand: of the repository of a name, with what its base is given.
 pub record IsRun (tells : Type 0) (files : List NamedFile) (name : List ℕ) (moment : ℕ) (old ws : List Write) : Type 0 where
   pub repo : Repo
   pub there : known name (after old []) ≡ Some repo
-  pub items : List Item
-  pub are_items : AreItemsOf tells files repo.files items
-  pub is : ws ≡ steps (given moment items) repo
-
--- what a stop of a run leaves: the writes from before, and the first of its own, however many
-pub record IsStoppedIn (tells : Type 0) (files : List NamedFile) (name : List ℕ) (moment : ℕ) (old list : List Write) : Type 0 where
-  pub ws : List Write
-  pub run : IsRun tells files name moment old ws
-  pub front : IsFront old ws 0 list
+  pub given : Given
+  pub is_given : IsGiven tells files repo.files moment given
+  pub is : ws ≡ steps given repo
 
 -- the run, the outcome that it leaves, and its text
 pub record IsRunDone (tells : Type 0) (files : List NamedFile) (name : List ℕ) (moment : ℕ) (old new : List Write) (text : List ℕ) : Type 0 where
   pub ws : List Write
   pub run : IsRun tells files name moment old ws
   pub all : new ≡ old ++ ws
-  pub leaves : LeavesOutcome (given moment run.items) name run.repo new
+  pub leaves : LeavesOutcome run.given name run.repo new
   pub prints : PrintsRun moment run.repo ws text
 
 -- ---- refusals
@@ -78,7 +62,3 @@ pub data IsRepoRefusal (files : List NamedFile) (name : List ℕ) (moment limit 
 pub data IsUnwanted (files : List NamedFile) (name : List ℕ) (old : List Write) (error : RunError) : Type 0 where
   no_repo : known name (after old []) ≡ None → error ≡ UnknownRepo → IsUnwanted files name old error
   no_items : (repo : Repo) → known name (after old []) ≡ Some repo → IsBaseRefusal files repo.files error → IsUnwanted files name old error
-
--- the writes from before, or those and the first of a run
-abbrev pub IsOldOrStopped : Type 0 → List NamedFile → List ℕ → ℕ → List Write → List Write → Type 0
-IsOldOrStopped tells files name moment old list = (list ≡ old) ⊎ IsStoppedIn tells files name moment old list

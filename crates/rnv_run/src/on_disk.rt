@@ -1,18 +1,19 @@
-ghost use Rattle.std.specs.Prelude.{◌≡◌, ◌≢◌, ◌++◌, List as Items, [], false, length, IfErr, IfOk};
+ghost use Rattle.std.specs.Prelude.{◌≡◌, ◌≢◌, ◌⊎◌, ◌++◌, List as Items, [], None, false, length, IfErr, IfOk, IsErrOf};
 ghost use Rattle.std.specs.List.{AllByRecursion};
 ghost use Rattle.rnv_base.specs.Causes.{FaultsBy};
 ghost use Rattle.rnv_base.specs.Moment.{IsMoment};
-ghost use Rattle.rnv_forge.specs.Store.{ArePermitted};
+ghost use Rattle.rnv_forge.specs.Store.{ArePermitted, after, known};
 ghost use Rattle.rnv_forge.specs.WellFormed.{IsWellFormed};
 ghost use Rattle.rnv_forge.specs.declared.repo.Repo.{Repo as Record};
 ghost use Rattle.rnv_forge.specs.declared.write.Write.{Write as Change};
-ghost use Rattle.rnv_outcome.specs.declared.item.Item.{Item as Wish};
-ghost use Rattle.rnv_steps.specs.Stage.{given};
+ghost use Rattle.rnv_desired.specs.Givens.{IsGiven};
+ghost use Rattle.rnv_outcome.specs.Given.{Given};
 ghost use Rattle.rnv_store.specs.Forge.{LeavesWrites};
 ghost use Rattle.rnv_run.specs.declared.on_disk.RunRefusal.TheVariants.{Ended as ended_by};
 ghost use Rattle.rnv_run.specs.Front.{IsFront};
 ghost use Rattle.rnv_run.specs.OnDisk.{IsFinished, IsStartRefusal, LeavesRun, Runs, ended};
-ghost use Rattle.rnv_run.specs.Repository.{AreItemsOf, IfCaused, IsOldOrStopped, IsRepoRefusal};
+ghost use Rattle.rnv_run.specs.Begun.{BeginsOrStays};
+ghost use Rattle.rnv_run.specs.Repository.{IfCaused, IsRepoRefusal, IsRun};
 ghost use Rattle.rnv_run.specs.Run.{IsStoppedRun};
 
 use crate::run_repo;
@@ -91,18 +92,19 @@ fn run_started<D: Disk, O: Folder>(
     requires opened { ⟦<JournalForge<D> as Forge>⟧.closed forge ≡ false }
     requires limit { ⟦<JournalForge<D> as Forge>⟧.limit forge ≡ 268435456 }
     requires moment { IsMoment moment }
-    ensures any_moment { LeavesWrites 268435456 (⟦<JournalForge<D> as Forge>⟧.past forge) (D.past result.disk) (IsOldOrStopped O.tells (O.files folder.old) name.now moment (⟦<JournalForge<D> as Forge>⟧.writes forge)) }
+    ensures any_moment { BeginsOrStays 268435456 (IsRun O.tells (O.files folder.old) name.now moment) (⟦<JournalForge<D> as Forge>⟧.past forge) (D.past result.disk) (⟦<JournalForge<D> as Forge>⟧.writes forge) }
     ensures unwritten { IfErr result.text (λ error. error ≢ RunError.DiskFault → LeavesWrites 268435456 (⟦<JournalForge<D> as Forge>⟧.past forge) (D.past result.disk) (λ ws. ws ≡ ⟦<JournalForge<D> as Forge>⟧.writes forge)) }
     ensures ran { IfOk result.text (LeavesRun O.tells (O.files folder.old) name.now moment 268435456 (⟦<JournalForge<D> as Forge>⟧.writes forge) (D.past result.disk)) }
+    ensures unknown { known name.now (after (⟦<JournalForge<D> as Forge>⟧.writes forge) []) ≡ None → IsErrOf result.text RunError.UnknownRepo ⊎ IsErrOf result.text RunError.Memory }
     ensures refused { O.tells → IfErr result.text (IfCaused (IsRepoRefusal (O.files folder.old) name.now moment 268435456 (⟦<JournalForge<D> as Forge>⟧.writes forge))) }
     ensures same { O.tells → (O.files folder.new ≡ O.files folder.old) }
     ensures folder_cause { FaultsBy (O.faults folder.old) (O.faults folder.new) result.text RunError.FolderFault }
     ensures disk_cause { FaultsBy (⟦<JournalForge<D> as Forge>⟧.faults forge) (D.faults result.disk) result.text RunError.DiskFault }
-    ensures resumed { O.tells → (start : Items Change) (first : Record) (wishes : Items Wish) (us vs : Items Change) → AreItemsOf O.tells (O.files folder.old) first.files wishes
-        → IsStoppedRun (given moment wishes) name.now start first us vs (⟦<JournalForge<D> as Forge>⟧.writes forge)
-        → IfOk result.text (IsFinished 268435456 (D.past result.disk) name.now moment start first wishes) }
-    ensures resumed_any_moment { O.tells → (start : Items Change) (first : Record) (wishes : Items Wish) (us vs : Items Change) → AreItemsOf O.tells (O.files folder.old) first.files wishes
-        → IsStoppedRun (given moment wishes) name.now start first us vs (⟦<JournalForge<D> as Forge>⟧.writes forge)
+    ensures resumed { O.tells → (start : Items Change) (first : Record) (g : Given) (us vs : Items Change) → IsGiven O.tells (O.files folder.old) first.files moment g
+        → IsStoppedRun g name.now start first us vs (⟦<JournalForge<D> as Forge>⟧.writes forge)
+        → IfOk result.text (IsFinished 268435456 (D.past result.disk) name.now moment start first g (⟦<JournalForge<D> as Forge>⟧.writes forge)) }
+    ensures resumed_any_moment { O.tells → (start : Items Change) (first : Record) (g : Given) (us vs : Items Change) → IsGiven O.tells (O.files folder.old) first.files moment g
+        → IsStoppedRun g name.now start first us vs (⟦<JournalForge<D> as Forge>⟧.writes forge)
         → LeavesWrites 268435456 (⟦<JournalForge<D> as Forge>⟧.past forge) (D.past result.disk) (IsFront start (us ++ vs) (length us)) }
 {
     let mut forge = forge;
@@ -115,7 +117,8 @@ fn run_started<D: Disk, O: Folder>(
 
 /// Runs over a repository of the store of a disk, whose journal has at most 268435456 bytes, as
 /// `run_repo` does. Before its refusals: `DiskFault` only where the disk's count of faults rose;
-/// `NotAJournal` where its bytes are no store, with the offset. However often such a run is stopped,
+/// `NotAJournal` where its bytes are no store, with the offset. From any disk that has readings, also
+/// where an import was stopped, it begins one run, behind one of these, or none. However often such a run is stopped,
 /// at whatever moment, and given again with the same folder and moment, each stop leaves the writes
 /// from before the first run and the first of its writes, never fewer than before, and the run that
 /// answers a text leaves all of them (`Runs`).

@@ -1,16 +1,10 @@
-ghost use Rattle.std.specs.Prelude.{◌≡◌, ◌≤◌, [], false, length, IfOk};
-ghost use Rattle.std.specs.List.{AllByRecursion};
-ghost use Rattle.rnv_forge.specs.WellFormed.{AreInOrder};
-ghost use Rattle.rnv_outcome.specs.Items.{files_of};
-ghost use Rattle.rnv_steps.specs.Stage.{HaveBranches};
+ghost use Rattle.std.specs.Prelude.{◌≡◌, false, IfOk};
 
-use crate::{known_repo, run_items, run_text};
-use rnv_base::{Bytes, List, MemFile, MemFolder, Text, UpdateKind, name_ok};
+use crate::{run_repo, run_text};
+use rnv_base::{Bytes, List, MemFile, MemFolder, Text, name_ok};
 use rnv_commands::import_base;
 use rnv_disk::{Content, FileNo, MemDisk};
-use rnv_forge::{EditedFile, Key, Repo, Request, RequestState, Write};
-use rnv_outcome::{Item, ItemEdits};
-use rnv_pick::Update;
+use rnv_forge::{Key, Repo, Request, RequestState, Write};
 use rnv_store::{Forge, JournalForge};
 use std::alloc::{AllocError, Global};
 use std::convert::{AsSlice, AsStr};
@@ -36,12 +30,27 @@ fn started(alloc: Global, zero: &[u8], failing: &[u64]) -> Result<JournalForge<M
     }
 }
 
+const TWO: &[u8] = b"{\"versions\":{\"1.0.0\":{},\"1.1.0\":{}}}";
+
+// The documents of three packages with an update each, and a repository that uses them.
+const FILES: [(&str, &[u8]); 4] = [
+    ("index/npm/a.json", TWO),
+    ("index/npm/b.json", TWO),
+    ("index/npm/c.json", TWO),
+    (
+        "repos/acme/web/package.json",
+        b"{\"dependencies\":{\"a\":\"1.0.0\",\"b\":\"1.0.0\",\"c\":\"1.0.0\"}}",
+    ),
+];
+
 fn folder(alloc: Global) -> Result<MemFolder, Fail> {
     let mut files = List::empty(alloc);
-    files.push(MemFile {
-        path: Text::copied(alloc, "repos/acme/web/package.json")?,
-        bytes: Bytes::new(Vec::from_slice(alloc, b"{}")?),
-    })?;
+    for (path, bytes) in FILES {
+        files.push(MemFile {
+            path: Text::copied(alloc, path)?,
+            bytes: Bytes::new(Vec::from_slice(alloc, bytes)?),
+        })?;
+    }
     Ok(MemFolder::new(alloc, files, List::empty(alloc))?.ok_or("order")?)
 }
 
@@ -61,48 +70,12 @@ fn stored(alloc: Global) -> Result<Vec<u8>, Fail> {
     Ok(Vec::from_slice(alloc, disk.part(FileNo::Zero))?)
 }
 
-// An item without files.
-#[tactic(auto, unfolding(rnv_outcome::specs::Items::files_of))]
-fn item(alloc: Global, branch: &str) -> Result<Item, AllocError>
-    ensures branch { IfOk result (λ item. item.branch ≡ branch.now) }
-    ensures files { IfOk result (λ item. files_of item ≡ []) }
-{
-    Ok(Item {
-        branch: Text::copied(alloc, branch)?,
-        title: Text::copied(alloc, branch)?,
-        body: Text::copied(alloc, "")?,
-        labels: List::empty(alloc),
-        kind: UpdateKind::Minor,
-        priority: 0,
-        updates: List::<Update>::empty(alloc),
-        approval: false,
-        scheduled: true,
-        pending: false,
-        edits: ItemEdits::Plain {
-            files: List::<EditedFile>::empty(alloc),
-        },
-    })
-}
-
-fn items(alloc: Global) -> Result<List<Item>, AllocError>
-    ensures distinct { IfOk result HaveBranches }
-    ensures ordered { IfOk result (AllByRecursion (λ i. AreInOrder (λ f. f.path) (files_of i))) }
-    ensures few { IfOk result (λ items. length items ≤ 5000) }
-{
-    let mut items = List::empty(alloc);
-    items.push(item(alloc, "renovate/a-1.x")?)?;
-    items.push(item(alloc, "renovate/b-1.x")?)?;
-    items.push(item(alloc, "renovate/c-1.x")?)?;
-    Ok(items)
-}
-
 // What a run prints over these bytes, nothing where a call of the disk failed, and the bytes after it.
 fn run(alloc: Global, zero: &[u8], failing: &[u64]) -> Result<(List<u8>, Vec<u8>), Fail> {
     let name = Text::copied(alloc, NAME)?;
-    let items = items(alloc)?;
+    let mut folder = folder(alloc)?;
     let mut forge = started(alloc, zero, failing)?;
-    let repo = known_repo(alloc, &forge, &name)?;
-    let text = match run_items(alloc, &mut forge, &repo, MOMENT, &items) {
+    let text = match run_repo(alloc, &mut forge, &mut folder, &name, MOMENT) {
         Ok(text) => text,
         Err(_) => List::empty(alloc),
     };

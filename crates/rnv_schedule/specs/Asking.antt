@@ -9,9 +9,3 @@ pub record Asked {T : Type 0} (text : List ℕ) (refused took now_refused now_to
   pub untaking : OnErr result (now_took ≡ took)
   pub refuses : IsErrOf result BadZone → now_refused ≡ refused ++ text ∷ []
   pub unrefusing : ¬ IsErrOf result BadZone → now_refused ≡ refused
-
--- The same of a reader that may run out of memory after the engine took the text.
-pub record Read {T : Type 0} (text : List ℕ) (refused took now_refused now_took : List (List ℕ)) (result : Result T ZoneError) : Type 0 where
-  pub takes : OnOk result (now_took ≡ took ++ text ∷ [])
-  pub refuses : IsErrOf result BadZone → now_refused ≡ refused ++ text ∷ []
-  pub unrefusing : ¬ IsErrOf result BadZone → now_refused ≡ refused

@@ -25,7 +25,7 @@ impl Model for Zone {
 }
 
 impl Zone {
-    ghost use Rattle.std.specs.Prelude.{◌≡◌, Some, None, IfOk};
+    ghost use Rattle.std.specs.Prelude.{◌≡◌, Some, None};
     ghost use Rattle.jiff.specs.Placed.{IsPosixZone};
     ghost use Rattle.jiff.specs.ZoneView.{plain_zone};
     ghost use Rattle.rnv_schedule.specs.Clock.{IsClock};
@@ -40,15 +40,15 @@ impl Zone {
         }
     }
 
-    // The zone of the rule that a text was read as. Only memory can fail.
-    pub fn of(alloc: Global, text: &str, rule: TimeZone<'static>) -> Result<Zone, AllocError>
-        requires { IsPosixZone text.now (plain_zone rule) }
-        ensures { IfOk result (λ zone. zone ≡ Some text.now) }
+    // The zone of the rule that a text was read as.
+    pub fn of(text: Text, rule: TimeZone<'static>) -> Zone
+        requires { IsPosixZone text (plain_zone rule) }
+        ensures { result ≡ Some text }
     {
-        Ok(Zone {
-            text: Some(Text::copied(alloc, text)?),
+        Zone {
+            text: Some(text),
             rule,
-        })
+        }
     }
 
     // What a clock in the zone shows at an instant.

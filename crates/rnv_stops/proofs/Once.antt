@@ -91,8 +91,8 @@ numbered_same f same n (w ∷ ws) =
 put_at : (repo : List ℕ) (g : Given) (base : Base) (i : Item) (ticked : Bool) (o : Option Branch) → AtMost i.branch (flat_map put_of (put_writes repo o (result_over g base i ticked o)))
 put_at repo g base i ticked None = inr refl
 put_at repo g base i ticked (Some b) =
-    elim (is_stale g base i ticked b) as (λ s. AtMost i.branch (flat_map put_of (cond (same_branch b (cond s (content base i) b)) [] (PutBranch repo (cond s (content base i) b) ∷ [])))) [
-      | true ↦ elim (same_branch b (content base i)) as (λ h. AtMost i.branch (flat_map put_of (cond h [] (PutBranch repo (content base i) ∷ [])))) [
+    elim (is_stale base i ticked b) as (λ s. AtMost i.branch (flat_map put_of (cond (same_branch b (cond s (content g base i) b)) [] (PutBranch repo (cond s (content g base i) b) ∷ [])))) [
+      | true ↦ elim (same_branch b (content g base i)) as (λ h. AtMost i.branch (flat_map put_of (cond h [] (PutBranch repo (content g base i) ∷ [])))) [
         | true ↦ inl refl
         | false ↦ inr refl
       ]
@@ -136,9 +136,9 @@ module _ (g : Given) (repo : Repo) where
       let v = view g repo i in
       let puts = put_writes base.name v.branch (result g base i v) in
       let asks = ask_writes g base i v in
-      elim (is_worked g (is_chosen g repo i) i v) as (λ b. AtMost i.branch (flat_map put_of (cond b (puts ++ asks) []))) [
+      elim (is_worked (is_chosen g repo i) i v) as (λ b. AtMost i.branch (flat_map put_of (cond b (puts ++ asks) []))) [
         | true ↦ subst (AtMost i.branch) (sym (flat_map-append put_of puts asks))
-            (then_none i.branch (flat_map put_of puts) (flat_map put_of asks) (put_at base.name g base i v.ticked v.branch) (put_asks base.name (to_open g base i v) g.moment i.branch v.live (texts g base i v)))
+            (then_none i.branch (flat_map put_of puts) (flat_map put_of asks) (put_at base.name g base i v.ticked v.branch) (put_asks base.name (to_open base i v) g.moment i.branch v.live (texts g base i v)))
         | false ↦ inl refl
       ]
 
@@ -148,9 +148,9 @@ module _ (g : Given) (repo : Repo) where
       let v = view g repo i in
       let puts = put_writes base.name v.branch (result g base i v) in
       let asks = ask_writes g base i v in
-      elim (is_worked g (is_chosen g repo i) i v) as (λ b. AtMost i.branch (flat_map opened_of (cond b (puts ++ asks) []))) [
+      elim (is_worked (is_chosen g repo i) i v) as (λ b. AtMost i.branch (flat_map opened_of (cond b (puts ++ asks) []))) [
         | true ↦ subst (AtMost i.branch) (sym (flat_map-append opened_of puts asks))
-            (after_none i.branch (flat_map opened_of puts) (flat_map opened_of asks) (opened_put base.name v.branch (result g base i v)) (opened_at base.name (to_open g base i v) g.moment i.branch v.live (texts g base i v)))
+            (after_none i.branch (flat_map opened_of puts) (flat_map opened_of asks) (opened_put base.name v.branch (result g base i v)) (opened_at base.name (to_open base i v) g.moment i.branch v.live (texts g base i v)))
         | false ↦ inl refl
       ]
 

@@ -1,12 +1,16 @@
-ghost use Rattle.std.specs.Prelude.{◌≡◌, ◌≤◌, ◌+◌, ◌-◌, ◌^◌, ℕ, false, [], ◌++◌, length, map, min, take, drop, IfOk, IsErrOf, OnOk};
+ghost use Rattle.std.specs.Prelude.{◌≡◌, ◌≢◌, ◌≤◌, ◌↔◌, ◌+◌, ◌-◌, ◌^◌, ℕ, true, false, [], ◌++◌, length, map, min, take, drop, IfOk, IsErrOf, OnErr, OnOk};
 ghost use Rattle.std.specs.List.{AllByRecursion};
+ghost use Rattle.rnv_base.specs.Causes.{FaultsBy};
+ghost use Rattle.rnv_base.specs.Turns.{IsListed, first_turn, next_turn};
 ghost use Rattle.rnv_forge.specs.declared.refusal.Refusal.{Refusal as Cause};
 ghost use Rattle.rnv_forge.specs.Store.{ArePermitted, after};
 ghost use Rattle.rnv_forge.specs.WellFormed.{IsOrderly, IsWellFormed};
+ghost use Rattle.rnv_journal.specs.Readings.{KeepsOne};
 ghost use Rattle.rnv_payload.specs.Spelling.{spelling};
 ghost use Rattle.rnv_store.specs.declared.forge.ForgePrepareError.TheVariants.{Full, Refused as PrepareRefused};
+ghost use Rattle.rnv_store.specs.declared.forge.WriteError.TheVariants.{Closed as write_closed, DiskFault};
 ghost use Rattle.rnv_store.specs.declared.stored.CheckError.TheVariants.{Refused};
-ghost use Rattle.rnv_store.specs.Forge.{IsOverfull};
+ghost use Rattle.rnv_store.specs.Forge.{IsOldOrNext, IsOverfull, LeavesWrites};
 ghost use Rattle.rnv_store.specs.InMemory.{HoldsInMemory, in_memory_permitted, in_memory_well_formed, in_memory_within, no_past, nothing_at_rest};
 ghost use Rattle.rnv_store.specs.Laws.{store_bounded, store_sound};
 ghost use Rattle.rnv_store.specs.Refused.{IsFirstRefused};
@@ -15,7 +19,7 @@ ghost use Rattle.rnv_store.specs.Writes.{length_of};
 use crate::store::Store;
 use crate::stored::{CheckError, checked};
 use crate::{Forge, ForgePrepareError, WriteError};
-use rnv_base::{List, Text};
+use rnv_base::{Failing, List, Text};
 use rnv_forge::{ApplyError, Repo, Write};
 use rnv_payload::spell;
 use std::alloc::{AllocError, Global};
@@ -32,8 +36,7 @@ pub struct MemForge {
     // How many of them stand.
     done: usize,
     limit: u64,
-    failing: List<u64>,
-    calls: u64,
+    failing: Failing,
     faults: u64,
     closed: bool,
 }
@@ -50,14 +53,13 @@ impl MemForge {
         ensures limit { ⟦<MemForge as Forge>⟧.limit result ≡ limit }
         ensures opened { ⟦<MemForge as Forge>⟧.closed result ≡ false }
         ensures unfailed { ⟦<MemForge as Forge>⟧.faults result ≡ 0 }
-        ensures failing { result.failing ≡ failing }
+        ensures failing { result.failing ≡ first_turn failing }
     {
         MemForge {
             all: Vec::new(alloc),
             done: 0,
             limit,
-            failing,
-            calls: 0,
+            failing: Failing::new(failing),
             faults: 0,
             closed: false,
         }
@@ -116,13 +118,30 @@ impl Forge for MemForge {
         }
     }
 
-    fn write_next(&mut self) -> Result<(), WriteError> {
+    /// Unless it is closed, `DiskFault` exactly where the call is listed.
+    fn write_next(&mut self) -> Result<(), WriteError>
+        requires holds { HoldsInMemory self.old.all.items self.old.done self.old.limit }
+        requires prepared { drop self.old.done self.old.all.items ≢ [] }
+        ensures holds { HoldsInMemory self.new.all.items self.new.done self.new.limit }
+        ensures any_moment { self.old.closed ≡ false → LeavesWrites self.old.limit no_past no_past (IsOldOrNext (take self.old.done self.old.all.items) (drop self.old.done self.old.all.items)) }
+        ensures other { KeepsOne no_past no_past }
+        ensures ok { OnOk result (take self.new.done self.new.all.items ≡ take self.old.done self.old.all.items ++ take 1 (drop self.old.done self.old.all.items)) }
+        ensures next { OnOk result (drop self.new.done self.new.all.items ≡ drop 1 (drop self.old.done self.old.all.items)) }
+        ensures err { OnErr result (take self.new.done self.new.all.items ≡ take self.old.done self.old.all.items) }
+        ensures stays { OnErr result (drop self.new.done self.new.all.items ≡ drop self.old.done self.old.all.items) }
+        ensures opened { OnOk result (self.new.closed ≡ false) }
+        ensures closes { OnErr result (self.new.closed ≡ true) }
+        ensures limit { self.new.limit ≡ self.old.limit }
+        ensures closed { IsErrOf result write_closed ↔ (self.old.closed ≡ true) }
+        ensures idle { self.old.closed ≡ true → self.new ≡ self.old }
+        ensures cause { FaultsBy self.old.faults self.new.faults result DiskFault }
+        ensures listed { self.old.closed ≡ false → IsErrOf result DiskFault ↔ IsListed self.old.failing }
+        ensures turn { self.old.closed ≡ false → self.new.failing ≡ next_turn self.old.failing }
+    {
         if self.closed {
             return Err(WriteError::Closed);
         }
-        let call = self.calls;
-        self.calls = call.saturating_add(1);
-        if self.failing.as_slice().contains(&call) {
+        if self.failing.strikes() {
             self.faults = self.faults.saturating_add(1);
             self.closed = true;
             return Err(WriteError::DiskFault);

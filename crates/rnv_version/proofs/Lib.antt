@@ -7,3 +7,9 @@ pub mod CargoMet
 pub mod CargoReads
 pub mod CargoGiven
 pub mod TagGrammar
+pub mod KindsRise
+pub mod VersionBytes
+pub mod CargoExact
+mod Calm
+pub mod Memory
+pub mod Spelled

@@ -1,10 +1,6 @@
-ghost use Rattle.std.specs.Prelude.{◌≡◌, ℕ, Bool, true, List, Option, Some, None, IfOk, IsErrOf, IsSome};
+ghost use Rattle.std.specs.Prelude.{◌≡◌, Some, None, IfOk, IsErrOf, IsSome};
 ghost use Rattle.std.specs.Cmp.{IsTotalOrder};
-ghost use Rattle.std.specs.declared.cmp.Ordering.{Ordering};
-ghost use Rattle.rnv_base.specs.declared.kinds.UpdateKind.{UpdateKind};
-ghost use Rattle.rnv_base.specs.declared.kinds.Strategy.{Strategy};
-ghost use Rattle.rnv_version.specs.declared.numbers.Numbers.{Numbers};
-ghost use Rattle.rnv_version.specs.Texts.{is_quotable};
+ghost use Rattle.rnv_version.specs.Numbering.{AreSpelled, ExactIsMet, ExactIsNamed, KindsRise, NewIsMet, Numbering};
 
 use crate::{Numbers, RangeError, VersionError};
 use rnv_base::{Strategy, Text, UpdateKind};
@@ -19,74 +15,46 @@ pub trait Versioning {
     /// A range of versions as it was read.
     type Range: Drop;
 
-    /// The version that a text is, if it is one.
-    ghost version_of: { Self → List ℕ → Option Self.Version };
-
-    /// The range that a text is, if it is one.
-    ghost range_of: { Self → List ℕ → Option Self.Range };
-
-    /// Which of two versions is the later one.
-    ghost order: { Self → Self.Version → Self.Version → Ordering };
-
-    /// Whether one of the versions may stand for the other.
-    ghost are_comparable: { Self → Self.Version → Self.Version → Bool };
-
-    /// Whether the version is in the range.
-    ghost is_satisfied: { Self → Self.Range → Self.Version → Bool };
-
-    /// Whether the range names one version.
-    ghost is_exact: { Self → Self.Range → Bool };
-
-    /// Whether the version is no pre-release.
-    ghost is_stable: { Self → Self.Version → Bool };
-
-    /// How far the second version is from the first.
-    ghost kind_between: { Self → Self.Version → Self.Version → UpdateKind };
-
-    /// The first two numbers of a version.
-    ghost numbers_of: { Self → Self.Version → Numbers };
-
-    /// By a strategy, the text of a range that is to stand for a value when this version is wanted, if
-    /// there is one.
-    ghost new_text: { Self → Strategy → List ℕ → List ℕ → Option (List ℕ) };
+    /// What it means.
+    ghost numbering: { Self → Numbering Self.Version Self.Range };
 
     /// The version that a text is. `NotAVersion` only for other texts. Else only memory can fail.
     fn version(&self, alloc: Global, text: &str) -> Result<Self::Version, VersionError>
-        ensures value { IfOk result (λ v. version_of self.now text.now ≡ Some v) }
-        ensures not { IsErrOf result VersionError.NotAVersion → version_of self.now text.now ≡ None };
+        ensures value { IfOk result (λ v. (numbering self.now).version_of text.now ≡ Some v) }
+        ensures not { IsErrOf result VersionError.NotAVersion → (numbering self.now).version_of text.now ≡ None };
 
     /// The range that a text is. `NotARange` only for other texts. Else only memory can fail.
     fn range(&self, alloc: Global, text: &str) -> Result<Self::Range, RangeError>
-        ensures value { IfOk result (λ r. range_of self.now text.now ≡ Some r) }
-        ensures not { IsErrOf result RangeError.NotARange → range_of self.now text.now ≡ None };
+        ensures value { IfOk result (λ r. (numbering self.now).range_of text.now ≡ Some r) }
+        ensures not { IsErrOf result RangeError.NotARange → (numbering self.now).range_of text.now ≡ None };
 
     /// Which of two versions is the later one. This is a total preorder.
     fn compare(&self, a: &Self::Version, b: &Self::Version) -> Ordering
-        ensures { result ≡ order self.now a.now b.now };
+        ensures { result ≡ (numbering self.now).order a.now b.now };
 
     /// Whether one of the versions may stand for the other.
     fn comparable(&self, a: &Self::Version, b: &Self::Version) -> bool
-        ensures { result ≡ are_comparable self.now a.now b.now };
+        ensures { result ≡ (numbering self.now).are_comparable a.now b.now };
 
     /// Whether the version is in the range.
     fn satisfies(&self, range: &Self::Range, version: &Self::Version) -> bool
-        ensures { result ≡ is_satisfied self.now range.now version.now };
+        ensures { result ≡ (numbering self.now).is_satisfied range.now version.now };
 
     /// Whether the range names one version.
     fn exact(&self, range: &Self::Range) -> bool
-        ensures { result ≡ is_exact self.now range.now };
+        ensures { result ≡ (numbering self.now).is_exact range.now };
 
     /// Whether the version is no pre-release.
     fn stable(&self, version: &Self::Version) -> bool
-        ensures { result ≡ is_stable self.now version.now };
+        ensures { result ≡ (numbering self.now).is_stable version.now };
 
     /// How far the second version is from the first.
     fn kind(&self, from: &Self::Version, to: &Self::Version) -> UpdateKind
-        ensures { result ≡ kind_between self.now from.now to.now };
+        ensures { result ≡ (numbering self.now).kind_between from.now to.now };
 
     /// The first two numbers of a version, a missing one 0.
     fn numbers(&self, version: &Self::Version) -> Numbers
-        ensures { result ≡ numbers_of self.now version.now };
+        ensures { result ≡ (numbering self.now).numbers_of version.now };
 
     /// By a strategy, the text of a range that is to stand for the value when this version is wanted, and
     /// `None` exactly where there is none. Only memory can fail.
@@ -97,20 +65,66 @@ pub trait Versioning {
         value: &str,
         version: &str,
     ) -> Result<Option<Text>, AllocError>
-        requires readable_value { IsSome (range_of self.now value.now) }
-        requires readable_version { IsSome (version_of self.now version.now) }
-        ensures { IfOk result (λ text. text ≡ new_text self.now strategy value.now version.now) };
+        requires readable_value { IsSome ((numbering self.now).range_of value.now) }
+        requires readable_version { IsSome ((numbering self.now).version_of version.now) }
+        ensures { IfOk result (λ text. text ≡ (numbering self.now).new_text strategy value.now version.now) }
+    {
+        let range = match self.range(alloc, value) {
+            Ok(range) => range,
+            Err(RangeError::NotARange) => unreachable!(),
+            Err(RangeError::Memory) => return Err(AllocError),
+        };
+        let read = match self.version(alloc, version) {
+            Ok(read) => read,
+            Err(VersionError::NotAVersion) => unreachable!(),
+            Err(VersionError::Memory) => return Err(AllocError),
+        };
+        self.rewritten(alloc, strategy, value, &range, version, &read)
+    }
+
+    /// The same over what was read already: the range that the value is, and the version that the text
+    /// is. Only memory can fail.
+    fn rewritten(
+        &self,
+        alloc: Global,
+        strategy: Strategy,
+        value: &str,
+        range: &Self::Range,
+        text: &str,
+        version: &Self::Version,
+    ) -> Result<Option<Text>, AllocError>
+        requires value { (numbering self.now).range_of value.now ≡ Some range.now }
+        requires version { (numbering self.now).version_of text.now ≡ Some version.now }
+        ensures { IfOk result (λ t. t ≡ (numbering self.now).new_text strategy value.now text.now) };
+
+    /// The text of the version that an exact value names, without spaces, operator and `v`, and
+    /// `None` for other values. Only memory can fail.
+    fn exact_text(
+        &self,
+        alloc: Global,
+        value: &str,
+        range: &Self::Range,
+    ) -> Result<Option<Text>, AllocError>
+        requires { (numbering self.now).range_of value.now ≡ Some range.now }
+        ensures { IfOk result (λ t. t ≡ (numbering self.now).exact_text value.now) };
+
+    /// The version whose numbers a plain value names, missing ones 0, and `None` for other values.
+    /// Only memory can fail.
+    fn bump_start(&self, alloc: Global, value: &str) -> Result<Option<Self::Version>, AllocError>
+        ensures { IfOk result (λ v. v ≡ (numbering self.now).bump_start value.now) };
 
     /// Does nothing: its promise are laws of ranges and of new values.
     fn keeps_laws(&self)
-        // A range may stand between quotes in a file.
-        ensures quotable { (text : List ℕ) → IsSome (range_of self.now text) → is_quotable text ≡ true }
+        // A range is spelled with the characters of ranges.
+        ensures spelled { AreSpelled (numbering self.now) }
         // A new value is a range that the version satisfies.
-        ensures given { (strategy : Strategy) (value version text : List ℕ) (v : Self.Version)
-            → IsSome (range_of self.now value) → version_of self.now version ≡ Some v
-            → new_text self.now strategy value version ≡ Some text
-            → (r : Self.Range) × (range_of self.now text ≡ Some r) × (is_satisfied self.now r v ≡ true) };
+        ensures given { NewIsMet (numbering self.now) }
+        // A later version is of no lesser kind.
+        ensures kinds { KindsRise (numbering self.now) }
+        // The text of an exact value is that of a version in its range, and each exact value has one.
+        ensures exact_met { ExactIsMet (numbering self.now) }
+        ensures exact_named { ExactIsNamed (numbering self.now) };
 
     /// The order is total, up to versions that are alike in it.
-    ghost total: { (m : Self) → IsTotalOrder (order m) };
+    ghost total: { (m : Self) → IsTotalOrder (numbering m).order };
 }

@@ -1,17 +1,17 @@
 ghost use Rattle.std.specs.Prelude.{◌≡◌, true, Some, None, IfOk, IsErrOf};
-ghost use Rattle.rnv_version.specs.Cargo.{cargo_range, cargo_version, is_met, is_pinned};
-ghost use Rattle.rnv_version.specs.CargoNew.{cargo_new_text};
-ghost use Rattle.rnv_version.specs.SemVer.{IsVersion, Version, first_numbers, has_no_pre, version_cmp, version_total};
-ghost use Rattle.rnv_version.specs.Kind as kinds;
+ghost use Rattle.rnv_version.specs.Cargo.{cargo_version};
+ghost use Rattle.rnv_version.specs.SemVer.{HoldsText, IsVersion, Version, version_total};
+ghost use Rattle.rnv_version.specs.Versionings.{cargo};
 
 use crate::cargo::new_value::new_text;
 use crate::cargo::range::{is_met, is_pinned, read_range};
 use crate::cargo::version::read_version;
 use crate::cargo::{CargoRange, CargoVersion};
-use crate::{Numbers, RangeError, VersionError, Versioning, kind_between};
+use crate::{Numbers, RangeError, VersionError, Versioning, kind_between, named_text, word_of};
 use rnv_base::{Strategy, Text, UpdateKind};
 use std::alloc::{AllocError, Global};
 use std::cmp::Ordering;
+use std::convert::AsStr;
 
 /// Versions of crates, and the requirements that Cargo.toml states, as the crate `semver` reads
 /// them: a bare requirement is a caret one.
@@ -23,32 +23,17 @@ impl Versioning for CargoVersioning {
 
     type Range = CargoRange;
 
-    ghost version_of = { λ m text. cargo_version text };
+    ghost numbering = { λ m. cargo };
 
-    ghost range_of = { λ m text. cargo_range text };
-
-    ghost order = { λ m. version_cmp };
-
-    ghost are_comparable = { λ m a b. true };
-
-    ghost is_satisfied = { λ m range version. is_met range version };
-
-    ghost is_exact = { λ m range. is_pinned range };
-
-    ghost is_stable = { λ m version. has_no_pre version };
-
-    ghost kind_between = { λ m from to. kinds.kind_between (first_numbers from) (first_numbers to) };
-
-    ghost numbers_of = { λ m version. first_numbers version };
-
-    ghost new_text = { λ m strategy value version. cargo_new_text strategy value version };
-
+    /// The version that a text is: SemVer 2.0.0 with numbers below 2^64. `NotAVersion` only for other
+    /// texts. Only a pre-release and a build need memory.
     fn version(&self, alloc: Global, text: &str) -> Result<CargoVersion, VersionError>
         ensures value { IfOk result (λ v. cargo_version text.now ≡ Some v) }
         ensures grammar { IfOk result (λ v. IsVersion text.now v) }
         ensures not { IsErrOf result VersionError.NotAVersion → cargo_version text.now ≡ None }
         ensures no_grammar { IsErrOf result VersionError.NotAVersion
             → (v : Version) → ¬ IsVersion text.now v }
+        ensures memory { IsErrOf result VersionError.Memory → HoldsText text.now }
     {
         read_version(alloc, text)
     }
@@ -88,24 +73,40 @@ impl Versioning for CargoVersioning {
         }
     }
 
-    fn new_value(
+    fn rewritten(
         &self,
         alloc: Global,
         strategy: Strategy,
         value: &str,
-        version: &str,
+        range: &CargoRange,
+        _text: &str,
+        version: &CargoVersion,
     ) -> Result<Option<Text>, AllocError> {
-        let range = match read_range(alloc, value) {
-            Ok(range) => range,
-            Err(RangeError::NotARange) => unreachable!(),
-            Err(RangeError::Memory) => return Err(AllocError),
+        new_text(alloc, strategy, value, range, version)
+    }
+
+    fn exact_text(
+        &self,
+        alloc: Global,
+        value: &str,
+        range: &CargoRange,
+    ) -> Result<Option<Text>, AllocError> {
+        if is_pinned(range) {
+            Ok(Some(Text::copied(alloc, word_of(value))?))
+        } else {
+            Ok(None)
+        }
+    }
+
+    fn bump_start(&self, alloc: Global, value: &str) -> Result<Option<CargoVersion>, AllocError> {
+        let Some(text) = named_text(alloc, value)? else {
+            return Ok(None);
         };
-        let version = match read_version(alloc, version) {
-            Ok(version) => version,
-            Err(VersionError::NotAVersion) => unreachable!(),
-            Err(VersionError::Memory) => return Err(AllocError),
-        };
-        new_text(alloc, strategy, value, &range, &version)
+        match read_version(alloc, text.as_str()) {
+            Ok(version) => Ok(Some(version)),
+            Err(VersionError::NotAVersion) => Ok(None),
+            Err(VersionError::Memory) => Err(AllocError),
+        }
     }
 
     fn keeps_laws(&self) {}

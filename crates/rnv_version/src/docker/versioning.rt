@@ -1,7 +1,7 @@
 ghost use Rattle.std.specs.Prelude.{◌≡◌, true, Some, None, IfOk, IsErrOf};
 ghost use Rattle.std.specs.Cmp.Lexicographic.{pointwise};
-ghost use Rattle.rnv_version.specs.Docker.{IsTag, Tag, are_alike, docker_new_text, docker_tag, same_text, tag_cmp, tag_numbers, tag_total};
-ghost use Rattle.rnv_version.specs.Kind as kinds;
+ghost use Rattle.rnv_version.specs.Docker.{IsTag, Tag, docker_tag, tag_total};
+ghost use Rattle.rnv_version.specs.Versionings.{docker};
 
 use crate::docker::DockerVersion;
 use crate::docker::read::{read_range, read_version};
@@ -21,25 +21,7 @@ impl Versioning for DockerVersioning {
 
     type Range = DockerVersion;
 
-    ghost version_of = { λ m text. docker_tag text };
-
-    ghost range_of = { λ m text. docker_tag text };
-
-    ghost order = { λ m. tag_cmp };
-
-    ghost are_comparable = { λ m a b. are_alike a b };
-
-    ghost is_satisfied = { λ m range version. same_text range version };
-
-    ghost is_exact = { λ m range. true };
-
-    ghost is_stable = { λ m version. true };
-
-    ghost kind_between = { λ m from to. kinds.kind_between (tag_numbers from) (tag_numbers to) };
-
-    ghost numbers_of = { λ m version. tag_numbers version };
-
-    ghost new_text = { λ m strategy value version. docker_new_text strategy version };
+    ghost numbering = { λ m. docker };
 
     fn version(&self, alloc: Global, text: &str) -> Result<DockerVersion, VersionError>
         ensures value { IfOk result (λ v. docker_tag text.now ≡ Some v) }
@@ -94,17 +76,36 @@ impl Versioning for DockerVersioning {
         }
     }
 
-    fn new_value(
+    fn rewritten(
         &self,
         alloc: Global,
         strategy: Strategy,
         _value: &str,
-        version: &str,
+        _range: &DockerVersion,
+        text: &str,
+        _version: &DockerVersion,
     ) -> Result<Option<Text>, AllocError> {
         if strategy == Strategy::InRangeOnly {
             return Ok(None);
         }
-        Ok(Some(Text::copied(alloc, version)?))
+        Ok(Some(Text::copied(alloc, text)?))
+    }
+
+    fn exact_text(
+        &self,
+        alloc: Global,
+        value: &str,
+        _range: &DockerVersion,
+    ) -> Result<Option<Text>, AllocError> {
+        Ok(Some(Text::copied(alloc, value)?))
+    }
+
+    fn bump_start(
+        &self,
+        _alloc: Global,
+        _value: &str,
+    ) -> Result<Option<DockerVersion>, AllocError> {
+        Ok(None)
     }
 
     fn keeps_laws(&self) {}

@@ -1,5 +1,5 @@
 use Rattle.rnv_base.specs.Causes.{Rose}
-use Rattle.rnv_app.proofs.Ends.{disk_at, error_of, folder_at, part_at, refused_line, run_complete, status_of}
+use Rattle.rnv_app.proofs.Ends.{disk_at, error_of, folder_at, part_at, refused_line, run_complete, run_damaged, run_exactly, status_of}
 use Rattle.rnv_app.proofs.Answers.{causes_is, complete_is, exactly_is, import_is, in_part_is, named_is, plan_same, printed_is, run_is, show_is, usage_is}
 use Rattle.rnv_app.proofs.top.renovate.Goals as goal
 
@@ -56,3 +56,11 @@ returns-clause-run_complete g c = λ repo now asked t d free.
     run_complete _ repo now _ _ _ _ _ _ (Rose _ _) (Rose _ _) (run_is _ _ _ c.answer_to-text.ensures.answered _ _ _ _ _ _ c.tell-code.ensures.told repo now asked) t d free
     (λ e. c.answer_to-text.ensures.folder_cause.failed (error_of _ _ (folder_at _ _ _ _ _ _ _ c.tell-code.ensures.told e)))
     (λ e. c.answer_to-text.ensures.disk_cause.failed (error_of _ _ (disk_at _ _ _ _ _ _ _ c.tell-code.ensures.told e)))
+
+pub returns-clause-run_exactly : goal.returns-clause-run_exactly
+returns-clause-run_exactly g c = λ repo now asked t d error cause.
+    run_exactly _ repo now _ _ _ _ _ _ (run_is _ _ _ c.answer_to-text.ensures.answered _ _ _ _ _ _ c.tell-code.ensures.told repo now asked) t d error cause
+
+pub returns-clause-run_damaged : goal.returns-clause-run_damaged
+returns-clause-run_damaged g c = λ repo now asked t d offset damaged.
+    run_damaged _ repo now _ _ _ _ _ _ (run_is _ _ _ c.answer_to-text.ensures.answered _ _ _ _ _ _ c.tell-code.ensures.told repo now asked) t d offset damaged

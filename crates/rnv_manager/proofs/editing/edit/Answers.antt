@@ -2,7 +2,7 @@ use Rattle.std.proofs.Common.{length, sym, ap, ◌∙◌}
 use Rattle.std.proofs.lemmas.Option.{same_Some}
 use Rattle.std.proofs.lemmas.Result.{err_from_is_err_and}
 use Rattle.rnv_manager.specs.Finds.{views}
-use Rattle.rnv_manager.proofs.EditLaw.{wanted-are, as-many, has-room, edited-bytes-are, still-read, is-read-back, is-not-read-back, refused-so}
+use Rattle.rnv_manager.proofs.EditLaw.{wanted-are, as-many, has-room, edited-bytes-are, still-read, is-read-back, is-not-read-back, refused-so, memory_alone}
 use Rattle.rnv_manager.proofs.editing.edit.Goals as goal
 
 pub replaced-requires-clause-many : goal.replaced-requires-clause-many
@@ -58,3 +58,7 @@ returns-clause-edited g c = λ ms h.
     let is = c.in-Ok-from_utf8.ensures.cases.0 ∙ (c.as_slice-3.ensures ∙ bytes) in
     let back = c.in_ok-read_back.ensures.same in
     (bytes, is-read-back (g.M.Manager.reads c.args.manager.now) c.args.edits.now ms back.0 _ is (g.met.M.Manager.whole _ _ _ back.1) back.1 (sym wanted.0 ∙ back.2))
+
+pub returns-in_err-read_back-clause-kept : goal.returns-in_err-read_back-clause-kept
+returns-in_err-read_back-clause-kept g c = λ law.
+    memory_alone _ _ (λ start wanted found refused. (refused c.requires.read.0 c.requires.read.1).fails (law c.requires.read.0 c.requires.read.1)) (returns-in_err-read_back-clause-not_read_back g c)

@@ -10,7 +10,7 @@ returns-in-Ok-clause-runs g c =
     (runs_of g.O.Folder.tells g.D.Disk.tells (g.O.Folder.files c.args.folder.now) _ _ _ _ c.args.name.now c.args.moment _ _
     c.in-Ok.ensures.any_moment (λ d. read_on_entry _ _ (g.D.Disk.seen c.args.disk) _ (g.met.D.Disk.reads_now c.args.disk d) (c.in-Ok.ensures.writes d))
     (λ d. stored_of _ _ _ _ (c.in-Ok.ensures.writes d) c.stands.ensures.well_formed c.stands.ensures.permitted)
-    (λ t i left. g.met.D.Disk.only_told _ _ i left) (all_front IsWellFormed _ _ c.stands.ensures.well_formed) c.run_started-text.ensures.any_moment.later
+    (λ t i left. g.met.D.Disk.only_told _ _ i left) (all_front IsWellFormed _ _ c.stands.ensures.well_formed) c.run_started-text.ensures.any_moment c.run_started-text.ensures.unknown
     c.run_started-text.ensures.unwritten c.run_started-text.ensures.ran c.run_started-text.ensures.refused c.run_started-text.ensures.resumed c.run_started-text.ensures.resumed_any_moment)
 
 pub returns-in-Err-clause-runs : goal.returns-in-Err-clause-runs

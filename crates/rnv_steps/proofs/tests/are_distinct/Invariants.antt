@@ -1,5 +1,5 @@
 use Rattle.std.proofs.Common.{length}
-use Rattle.rnv_steps.specs.Stage.{HaveBranches}
+use Rattle.rnv_steps.specs.Told.{HaveBranches}
 use Rattle.rnv_steps.proofs.tests.are_distinct.Given as goal
 
 abbrev pub invariant-loop-rest : goal.invariant-loop-rest

@@ -1,0 +1,5 @@
+use Rattle.rnv_cargo.proofs.Edits.{edits-kept}
+use Rattle.rnv_cargo.proofs.manager.CargoManagerKeepsEdits.keeps_edits.Goals as goal
+
+pub returns-clause-law : goal.returns-clause-law
+returns-clause-law c = λ file ms edits read indexes fit. edits-kept file ms edits read fit
