@@ -1,11 +1,10 @@
 -- For the layers above, which name lists of writes alone: how what is said of stops goes on.
 use Rattle.std.proofs.Common.{ℕ, List, map, refl, inl, arith}
 use Rattle.std.specs.List.{AllByRecursion}
-use Rattle.rnv_disk.specs.Images.{Image}
 use Rattle.rnv_disk.specs.Stops.{Past}
 use Rattle.rnv_forge.specs.declared.write.Write.{Write}
 use Rattle.rnv_forge.specs.WellFormed.{IsWellFormed}
-use Rattle.rnv_journal.specs.Readings.{HasOneOf, IsAtRest, KeepsOne}
+use Rattle.rnv_journal.specs.Readings.{IsAtRest, KeepsOne}
 use Rattle.rnv_journal.proofs.Uses.{reads_first, reads_then, reads_weaker, rest_reads}
 use Rattle.rnv_payload.specs.Spelling.{spelling}
 use Rattle.rnv_store.specs.Forge.{IsSamePast, LeavesWrites, SpellSome}

@@ -9,5 +9,5 @@ checked-requires-clause-sound c = subst IsSoundStore (sym c.in-Ok.ensures) (soun
 
 pub checked-requires-clause-revisions : goal.checked-requires-clause-revisions
 checked-requires-clause-revisions c =
-    let few : length c.as_slice.result.now ≤ 3000000000 = omega (arith, c.if-list-gt3000000000.false, ap length c.as_slice.ensures) in
+    let few : length c.as_slice.result.now ≤ 3000000000 = omega (arith, c.if-len-gt3000000000.false, ap length c.as_slice.ensures) in
     revisions_small c.args.journal.now.entries c.requires.writes c.has_few.ensures c.in-Ok.store c.in-Ok.ensures (length c.as_slice.result.now) few

@@ -38,8 +38,8 @@ returns-in-Ok-clause-within g c =
 pub prepare_writes-requires-clause-small : goal.prepare_writes-requires-clause-small
 prepare_writes-requires-clause-small g c = c.requires.holds.writes.small
 
-pub take_kept-requires : goal.take_kept-requires
-take_kept-requires g c = c.requires.holds.kept
+pub take_kept-kept-requires : goal.take_kept-kept-requires
+take_kept-kept-requires g c = c.requires.holds.kept
 
 pub returns-in-Ok-clause-past : goal.returns-in-Ok-clause-past
 returns-in-Ok-clause-past g c = same_past (g.D.Disk.past c.args.self.now.disk)
