@@ -30,7 +30,7 @@ use Rattle.rnv_run.proofs.Disks.{runs_none}
 use Rattle.rnv_app.proofs.Four.{one-repo, one_time}
 use Rattle.rnv_app.proofs.Ends.{Answer, done_at, part_at, usage_at}
 
-pub has_plan : (words : List (List ℕ)) (files : List NamedFile) (text repo : List ℕ) (now : ℕ) (items : List Item) → IsPlan words repo now → IsPlanned repo files items → ((error : RunError) → ¬ (IsPlanRefusal repo files error)) → (time : List ℕ) × IsMomentText time now × (text ≡ plan_text time items) → HasPlan words files text
+pub has_plan : (words : List (List ℕ)) (files : List NamedFile) (text repo : List ℕ) (now : ℕ) (items : List Item) → IsPlan words repo now → IsPlanned repo now files items → ((error : RunError) → ¬ (IsPlanRefusal repo now files error)) → (time : List ℕ) × IsMomentText time now × (text ≡ plan_text time items) → HasPlan words files text
 has_plan words files text repo now items asked planned free printed = record {
   repo = repo;
   now = now;
@@ -44,13 +44,15 @@ has_plan words files text repo now items asked planned free printed = record {
 }
 
 -- what all of the words and a plan of them say is one
-no_cause : (words : List (List ℕ)) (files : List NamedFile) (repo : List ℕ) (now : ℕ) → IsPlan words repo now → ((error : RunError) → ¬ (IsPlanRefusal repo files error)) → (error : RunError) → ¬ (HasNoPlan words files error)
+no_cause : (words : List (List ℕ)) (files : List NamedFile) (repo : List ℕ) (now : ℕ) → IsPlan words repo now → ((error : RunError) → ¬ (IsPlanRefusal repo now files error)) → (error : RunError) → ¬ (HasNoPlan words files error)
 no_cause words files repo now asked free error none =
-    free error (subst (λ (r : List ℕ). IsPlanRefusal r files error) (one-repo words none.repo repo none.now now none.asked asked) none.cause)
+    let same = one_time words (codes "plan") none.repo repo none.now now none.asked asked in
+    free error (subst (λ (n : ℕ). IsPlanRefusal repo n files error) same.1 (subst (λ (r : List ℕ). IsPlanRefusal r none.now files error) same.0 none.cause))
 
 one_cause : (words : List (List ℕ)) (files : List NamedFile) (e f : RunError) → HasNoPlan words files e → HasNoPlan words files f → e ≡ f
 one_cause words files e f a b =
-    plan-one b.repo files e f (subst (λ (r : List ℕ). IsPlanRefusal r files e) (one-repo words a.repo b.repo a.now b.now a.asked b.asked) a.cause) b.cause
+    let same = one_time words (codes "plan") a.repo b.repo a.now b.now a.asked b.asked in
+    plan-one b.repo files b.now e f (subst (λ (n : ℕ). IsPlanRefusal b.repo n files e) same.1 (subst (λ (r : List ℕ). IsPlanRefusal r a.now files e) same.0 a.cause)) b.cause
 
 -- a status of one cause is that of the other
 or_one : (words : List (List ℕ)) (files : List NamedFile) (code : ℕ) (e f : RunError) → HasNoPlan words files e → HasNoPlan words files f → IsCauseOr (status_of e) code → IsCauseOr (status_of f) code
@@ -58,7 +60,7 @@ or_one words files code e f a b this = subst (λ (g : RunError). IsCauseOr (stat
 
 -- the refusal of a plan
 
-pub refusal_tells : (words : List (List ℕ)) (files : List NamedFile) (repo : List ℕ) (now : ℕ) (error : RunError) → error ≢ run.DiskFault → IsPlan words repo now → IfTold (IsPlanRefusal repo files) error → Tells words files (Err (plan_refusal_of error))
+pub refusal_tells : (words : List (List ℕ)) (files : List NamedFile) (repo : List ℕ) (now : ℕ) (error : RunError) → error ≢ run.DiskFault → IsPlan words repo now → IfTold (IsPlanRefusal repo now files) error → Tells words files (Err (plan_refusal_of error))
 refusal_tells words files repo now run.Memory ne asked cause = tt
 refusal_tells words files repo now run.FolderFault ne asked cause = tt
 refusal_tells words files repo now run.DiskFault ne asked cause = absurd (ne refl)

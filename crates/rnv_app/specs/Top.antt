@@ -27,8 +27,8 @@ pub record HasPlan (words : List (List ℕ)) (files : List NamedFile) (text : Li
   pub now : ℕ
   pub asked : IsPlan words repo now
   pub items : List Item
-  pub planned : IsPlanned repo files items
-  pub free : (error : RunError) → ¬ (IsPlanRefusal repo files error)
+  pub planned : IsPlanned repo now files items
+  pub free : (error : RunError) → ¬ (IsPlanRefusal repo now files error)
   pub time : List ℕ
   pub timed : IsMomentText time now
   pub same : text ≡ plan_text time items
@@ -38,7 +38,7 @@ pub record HasNoPlan (words : List (List ℕ)) (files : List NamedFile) (error :
   pub repo : List ℕ
   pub now : ℕ
   pub asked : IsPlan words repo now
-  pub cause : IsPlanRefusal repo files error
+  pub cause : IsPlanRefusal repo now files error
 
 -- what the text of a plan, or its refusal, tells of the words and the files
 abbrev pub Tells : List (List ℕ) → List NamedFile → Result (List ℕ) Refusal → Type 0
@@ -89,7 +89,7 @@ pub record IsFree (words : List (List ℕ)) (files : List NamedFile) : Type 0 wh
   pub repo : List ℕ
   pub now : ℕ
   pub asked : IsPlan words repo now
-  pub free : (error : RunError) → ¬ (IsPlanRefusal repo files error)
+  pub free : (error : RunError) → ¬ (IsPlanRefusal repo now files error)
 
 -- the line of that refusal was written, as far as the output took it
 pub record IsNamed (words : List (List ℕ)) (files : List NamedFile) (before after : List ℕ) (faults now : ℕ) : Type 0 where

@@ -284,7 +284,7 @@ fn text_for(
     items: &List<Item>,
 ) -> Result<List<u8>, Refusal>
     requires { IsPlan words.now repo.now now }
-    ensures plan { (files : Items NamedFile) → IsPlanned repo.now files items.now → ((error : Error) → ¬ IsPlanRefusal repo.now files error) → IfOk result (HasPlan words.now files) }
+    ensures plan { (files : Items NamedFile) → IsPlanned repo.now now files items.now → ((error : Error) → ¬ IsPlanRefusal repo.now now files error) → IfOk result (HasPlan words.now files) }
     ensures memory { IfErr result (λ refusal. refusal ≡ no_memory) }
 {
     let _ = words;

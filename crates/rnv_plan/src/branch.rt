@@ -41,7 +41,7 @@ fn major_of(alloc: Global, source: SourceKind, text: &str) -> Result<u64, AllocE
 
 // The first number of a version of this versioning, 0 for a text that is none.
 fn major_by<V: Versioning>(alloc: Global, versioning: &V, text: &str) -> Result<u64, AllocError>
-    ensures { IfOk result (λ major. major ≡ unwrap_or (option_map (λ v. (V.numbers_of versioning.now v).major) (V.version_of versioning.now text.now)) 0) }
+    ensures { IfOk result (λ major. major ≡ unwrap_or (option_map (λ v. ((V.numbering versioning.now).numbers_of v).major) ((V.numbering versioning.now).version_of text.now)) 0) }
 {
     match versioning.version(alloc, text) {
         Ok(version) => Ok(versioning.numbers(&version).major),
