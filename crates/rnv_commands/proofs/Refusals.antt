@@ -6,7 +6,6 @@ use Rattle.rnv_base.specs.Files.{NamedFile}
 use Rattle.rnv_disk.specs.Images.{Image}
 use Rattle.rnv_disk.specs.Stops.{Past}
 use Rattle.rnv_forge.specs.Store.{after}
-use Rattle.rnv_forge.specs.declared.repo.Repo.{Repo}
 use Rattle.rnv_forge.specs.declared.write.Write.{Write}
 use Rattle.rnv_journal.specs.declared.start.StartError.{StartError}
 use Rattle.rnv_journal.specs.declared.start.StartError.TheVariants.{DiskFault as start_fault, NotAJournal as start_damaged, Memory as start_memory}
@@ -79,10 +78,10 @@ module _ (limit : ℕ) (old new : Image) (before now : Past) where
   import_left tells files name most ws (NotAJournal offset) r = absurd r
   import_left tells files name most ws (Limit which number) r = tt
 
-  pub show_left : (store : List Repo) (name : List ℕ) (error : CommandError) → IsShowRefusal store name error → LeavesNoStore limit old new before now error
-  show_left store name Memory r = tt
-  show_left store name UnknownRepo r = tt
-  show_left store name FolderFault r = tt
-  show_left store name DiskFault r = tt
-  show_left store name (NotAJournal offset) r = absurd r
-  show_left store name (Limit which number) r = tt
+  pub show_left : (file : List ℕ) (writes : List Write) → IsStored limit file writes → (name : List ℕ) (error : CommandError) → IsShowRefusal (after writes []) name error → LeavesNoStore limit old new before now error
+  show_left file writes stored name Memory r = tt
+  show_left file writes stored name UnknownRepo r = tt
+  show_left file writes stored name FolderFault r = tt
+  show_left file writes stored name DiskFault r = tt
+  show_left file writes stored name (NotAJournal offset) r = absurd r
+  show_left file writes stored name (Limit which number) r = tt
