@@ -79,10 +79,10 @@ module _ (limit : ℕ) (old new : Image) (before now : Past) where
   import_left tells files name most ws (NotAJournal offset) r = absurd r
   import_left tells files name most ws (Limit which number) r = tt
 
-  pub show_left : (store : List Repo) (name : List ℕ) (error : CommandError) → IsShowRefusal store name error → LeavesNoStore limit old new before now error
-  show_left store name Memory r = tt
-  show_left store name UnknownRepo r = tt
-  show_left store name FolderFault r = tt
-  show_left store name DiskFault r = tt
-  show_left store name (NotAJournal offset) r = absurd r
-  show_left store name (Limit which number) r = tt
+  pub show_left : (file : List ℕ) (writes : List Write) → IsStored limit file writes → (name : List ℕ) (error : CommandError) → IsShowRefusal (after writes []) name error → LeavesNoStore limit old new before now error
+  show_left file writes stored name Memory r = tt
+  show_left file writes stored name UnknownRepo r = tt
+  show_left file writes stored name FolderFault r = tt
+  show_left file writes stored name DiskFault r = tt
+  show_left file writes stored name (NotAJournal offset) r = absurd r
+  show_left file writes stored name (Limit which number) r = tt
