@@ -1,5 +1,5 @@
 -- The changes from old files to new ones, one file after another.
-use Rattle.std.proofs.Common.{◌≡◌, ◌≢◌, ℕ, Bool, true, false, not, ◌||◌, List, [], ◌∷◌, ◌++◌, map, take, drop, refl, sym, ap, subst, ◌∙◌, append_assoc}
+use Rattle.std.proofs.Common.{◌≡◌, ◌≢◌, ℕ, Bool, true, false, cond, not, ◌||◌, None, Some, List, [], ◌∷◌, ◌++◌, map, take, drop, refl, sym, ap, subst, ◌∙◌, append_assoc}
 use Rattle.std.specs.List.{AllByRecursion, prefix_len}
 use Rattle.std.specs.List.Sorted.{IsStrictlySortedBy}
 use Rattle.std.specs.Str.{bytes_eq}
@@ -8,11 +8,11 @@ use Rattle.std.specs.Ordering.{is_lt}
 use Rattle.std.proofs.lemmas.Cmp.{nat_list_cmp_total}
 use Rattle.std.proofs.lemmas.List.{append-nil, take-append-drop}
 use Rattle.rnv_base.specs.Files.{NamedFile}
-use Rattle.rnv_forge.specs.Base.{path_of, is_changing}
+use Rattle.rnv_forge.specs.Base.{differs, path_of, is_changing}
 use Rattle.rnv_forge.specs.Files.{MarkedFile, PathChange}
 use Rattle.rnv_forge.specs.Merging.{change_path}
-use Rattle.rnv_forge.specs.Named.{IsRisingBy}
-use Rattle.rnv_forge.proofs.Merges.{AreBefore, changed_behind, changing_behind, front_changing, front_sets, merges_same}
+use Rattle.rnv_forge.specs.Named.{IsRisingBy, at}
+use Rattle.rnv_forge.proofs.Merges.{AreBefore, at_behind, at_none, changed_behind, changing_behind, front_changing, front_sets, merges_same}
 use Rattle.rnv_forge.proofs.Texts.{cmp, bytes_refl, bytes_true, equal_texts, all_weaker}
 use Rattle.rnv_commands.specs.Difference.{IsBelow, IsDifference, IsTurn, named_path, plain, removal, setting}
 use Rattle.rnv_commands.proofs.Below.{below_front, not_below, above_rest}
@@ -43,10 +43,23 @@ not_plain_above : (n : NamedFile) (ns : List NamedFile) (os : List MarkedFile) �
 not_plain_above n ns [] below e = absurd cc
 not_plain_above n ns (o ∷ os) below e = not_itself n.path o.path (sym (ap first_path e)) below.0
 
+-- each change differs from the old file at its path
+
+abbrev AreDiffering : List MarkedFile → List PathChange → Type 0
+AreDiffering old cs = AllByRecursion (λ (c : PathChange). differs c.bytes (at path_of c.path old) ≡ true) cs
+
+-- one old file more, below all of the changes
+differing_behind : (o : MarkedFile) (os : List MarkedFile) (cs : List PathChange) → IsBelow change_path o.path cs → AreDiffering os cs → AreDiffering (o ∷ os) cs
+differing_behind o os [] below all = tt
+differing_behind o os (c ∷ cs) below all = (ap (differs c.bytes) (at_behind c.path o os below.0) ∙ all.0, differing_behind o os cs below.1 all.1)
+
+at_here : (o : MarkedFile) (os : List MarkedFile) → at path_of o.path (o ∷ os) ≡ Some o
+at_here o os = ap (λ t. cond t (Some o) (at path_of o.path os)) (bytes_refl o.path)
+
 -- nothing and nothing
 none : IsDifference [] [] []
 unfolding IsStrictlySortedBy
-none = record { makes = λ r. refl; rising = tt; paths = λ a b. tt; below = λ p a b. tt; changing = λ ne. absurd (ne refl); none = λ e. refl }
+none = record { makes = λ r. refl; rising = tt; paths = λ a b. tt; below = λ p a b. tt; each = tt; changing = λ ne. absurd (ne refl); none = λ e. refl }
 
 -- an old file before the new ones is removed
 removed : (o : MarkedFile) (os : List MarkedFile) (ns : List NamedFile) (cs : List PathChange) → IsRisingBy path_of (o ∷ os) → IsBelow named_path o.path ns → IsDifference os ns cs → IsDifference (o ∷ os) ns (removal o ∷ cs)
@@ -59,6 +72,7 @@ removed o os ns cs rising below d =
       rising = rl;
       paths = λ a b. (a.0, d.paths a.1 b);
       below = λ p a b. (a.0, d.below p a.1 b);
+      each = (ap (differs None) (at_here o os), differing_behind o os cs above d.each);
       changing = λ ne. (merges_same 0 [] cs (removal o) o [] tt refl).changing os rising rl;
       none = λ e. absurd (not_plain_below o os ns below e);
     }
@@ -77,6 +91,7 @@ kept o os n ns cs rising new same bytes d =
       rising = d.rising;
       paths = λ a b. d.paths a.1 b.1;
       below = λ p a b. d.below p a.1 b.1;
+      each = differing_behind o os cs above d.each;
       changing = λ ne. changing_behind o cs os above ∙ d.changing ne;
       none = λ e. d.none (ap others e);
     }
@@ -100,6 +115,10 @@ altered o os n ns cs rising new same ne d =
       rising = rl;
       paths = λ a b. (b.0, d.paths a.1 b.1);
       below = λ p a b. (b.0, d.below p a.1 b.1);
+      each = (
+        ap (λ (p : List ℕ). differs (Some n.bytes) (at path_of p (o ∷ os))) (sym same) ∙ ap (differs (Some n.bytes)) (at_here o os) ∙ ap not (other_bytes o.bytes n.bytes ne),
+        differing_behind o os cs (d.below o.path rising.0 behind) d.each,
+      );
       changing = λ e. (merges_same 0 [] cs (setting n) o [] tt (sym same)).changing os rising rl
           ∙ ap (λ (t : Bool). (false || not t) || is_changing cs os) (other_bytes o.bytes n.bytes ne);
       none = λ e. absurd (ne (ap first_bytes e));
@@ -118,6 +137,7 @@ added os n ns cs new below d =
       rising = rl;
       paths = λ a b. (b.0, d.paths a b.1);
       below = λ p a b. (b.0, d.below p a b.1);
+      each = (ap (differs (Some n.bytes)) (at_none path_of n.path os below), d.each);
       changing = λ e. front_changing (setting n ∷ []) cs os before;
       none = λ e. absurd (not_plain_above n ns os below e);
     }

@@ -1,5 +1,5 @@
 -- What one write of a base makes of a store.
-use Rattle.std.proofs.Common.{◌≡◌, ◌≢◌, ◌≤◌, ◌<◌, ◌+◌, ◌*◌, inl, inr, ℕ, suc, true, false, not, ◌||◌, List, [], ◌∷◌, ◌++◌, length, Option, Some, None, refl, sym, ap, subst, ◌∙◌, arith}
+use Rattle.std.proofs.Common.{◌≡◌, ◌≢◌, ◌≤◌, ◌<◌, ◌+◌, inl, inr, ℕ, suc, true, false, not, ◌||◌, List, [], ◌∷◌, ◌++◌, length, Option, Some, None, refl, sym, ap, subst, ◌∙◌, arith}
 use Rattle.std.specs.Prelude.{IfSome, nat_lt, sum_by}
 use Rattle.std.specs.List.{AllByRecursion}
 use Rattle.std.specs.Str.{bytes_eq}
@@ -12,23 +12,22 @@ use Rattle.rnv_base.specs.Names.{IsPath}
 use Rattle.rnv_checkout.specs.Base.{IsWithin, size_of}
 use Rattle.rnv_forge.specs.Base.{changed, is_changing, is_over, path_of}
 use Rattle.rnv_forge.specs.Files.{MarkedFile, PathChange}
-use Rattle.rnv_forge.specs.Store.{ArePermitted, IsPermitted, IsSound, after, applied, applied_to, known, refusal, refusal_to, refused_if}
-use Rattle.rnv_forge.specs.WellFormed.{AreInOrder, IsOrderly, IsWellFormed}
+use Rattle.rnv_forge.specs.Bounded.{IsBounded}
+use Rattle.rnv_forge.specs.Store.{IsPermitted, IsSound, IsSoundStore, after, applied, applied_to, known, refusal, refusal_to, refused_if}
+use Rattle.rnv_forge.specs.WellFormed.{AreInOrder}
 use Rattle.rnv_forge.specs.declared.refusal.Refusal.{Refusal}
 use Rattle.rnv_forge.specs.declared.refusal.Refusal.TheVariants.{BaseFull, NoChange}
 use Rattle.rnv_forge.specs.declared.repo.Repo.{Repo}
 use Rattle.rnv_forge.specs.declared.write.Write.{Write}
 use Rattle.rnv_forge.specs.declared.write.Write.TheVariants.{SetBase}
-use Rattle.rnv_forge.proofs.Sound.{sound_from_nothing}
-use Rattle.rnv_forge.proofs.Texts.{all_weaker, bytes_true}
+use Rattle.rnv_forge.proofs.Texts.{bytes_true}
 use Rattle.rnv_store.specs.Forge.{IsOldOrNext}
 use Rattle.rnv_store.specs.Refused.{IsFirstRefused}
 use Rattle.rnv_store.specs.Writes.{length_of}
 use Rattle.rnv_store.proofs.ByName.{applied_name, known_all}
-use Rattle.rnv_store.proofs.Revisions.{revisions_more}
-use Rattle.rnv_store.proofs.Writes.{after_both, all_front, permitted_front}
+use Rattle.rnv_store.proofs.Writes.{after_both}
 use Rattle.rnv_commands.specs.Difference.{IsDifference, named_path, plain}
-use Rattle.rnv_commands.specs.Import.{files_of, import_text, repo_after, revision_of, revision_with, IsImport, IsImported, IsImportRefusal, IsOldOrImport, IsPrepared, IsReadRefusal, IsReady, IsWriteRefusal, PrintsImport}
+use Rattle.rnv_commands.specs.Import.{files_of, import_text, repo_after, revision_of, revision_with, IsImport, IsImported, IsImportRefusal, IsOldOrImport, IsOneWrite, IsPrepared, IsReadRefusal, IsReady, IsWriteRefusal, PrintsImport}
 use Rattle.rnv_commands.specs.declared.error.CommandError.{CommandError}
 use Rattle.rnv_commands.specs.declared.error.CommandError.TheVariants.{Memory, UnknownRepo, FolderFault, DiskFault, NotAJournal, Limit}
 use Rattle.rnv_commands.proofs.Puts.{at_put, at_other}
@@ -78,10 +77,13 @@ module _ (name : List ℕ) (changes : List PathChange) (old : List Write) where
   others_stay : (other : List ℕ) → other ≢ name → repo_after other with_write ≡ repo_after other old
   others_stay other ne = ap (known other) (after_both old (write ∷ []) []) ∙ at_other name_of made other (after old []) (other_name other ne)
 
+  pub one_write : (kept : List NamedFile) → IsDifference (files_of (repo_after name old)) kept changes → changes ≢ [] → IsOneWrite name kept old with_write
+  one_write kept d ne = record { changes = changes; difference = d; some = ne; is = refl }
+
   pub imported : (kept : List NamedFile) → IsDifference (files_of (repo_after name old)) kept changes → changes ≢ [] → IsImported name kept old with_write
   imported kept d ne = record {
     base = ap plain files_made ∙ d.makes (revision_of (repo_after name old) + 1);
-    one = inr (changes, refl);
+    one = inr (one_write kept d ne);
     none = λ same. absurd (ne (d.none same));
     others = others_stay;
   }
@@ -138,31 +140,20 @@ not_refused w store index cause permitted r = refused_at r.front r.write r.rest 
     refused_at (u ∷ []) v rest is e = absurd cc
     refused_at (u ∷ x ∷ us) v rest is e = absurd cc
 
--- the revision is below its bound
-
-revisions_from : (ws : List Write) (store : List Repo) (n : ℕ) → AllByRecursion (λ r. r.revision ≤ n) store → AllByRecursion (λ r. r.revision ≤ n + length ws) (after ws store)
-revisions_from [] store n a = all_weaker (λ (r : Repo). r.revision ≤ n) (λ (r : Repo). r.revision ≤ n + 0) (λ r le. omega (arith, le)) store a
-revisions_from (w ∷ ws) store n a =
-    all_weaker (λ (r : Repo). r.revision ≤ n + 1 + length ws) (λ (r : Repo). r.revision ≤ n + length (w ∷ ws)) (λ r le. omega (arith, le)) (after ws (applied w store))
-    (revisions_from ws (applied w store) (n + 1) (revisions_more w store n a))
-
-many : (ws : List Write) → 5 * length ws + 14 ≤ length_of ws
-many [] = omega arith
-many (w ∷ ws) = omega (arith, many ws)
-
-front_length : (ws more : List Write) → length_of ws ≤ length_of (ws ++ more)
+-- the journal is no shorter with more writes
+pub front_length : (ws more : List Write) → length_of ws ≤ length_of (ws ++ more)
 front_length [] [] = omega arith
 front_length [] (m ∷ more) = omega (arith, front_length [] more)
 front_length (w ∷ ws) more = omega (arith, front_length ws more)
 
-some_below : (o : Option Repo) (n : ℕ) → IfSome o (λ r. r.revision ≤ n) → revision_of o ≤ n
-some_below None n h = omega arith
-some_below (Some repo) n h = h
+-- the revision is below its bound
 
-pub revision_small : (name : List ℕ) (ws prepared : List Write) (limit : ℕ) → length_of (ws ++ prepared) ≤ limit → limit ≤ 4294967295 → revision_of (repo_after name ws) < 4294967295
-revision_small name ws prepared limit within small =
-    let at_most : revision_of (repo_after name ws) ≤ 0 + length ws = some_below (repo_after name ws) (0 + length ws) (known_all (λ (r : Repo). r.revision ≤ 0 + length ws) name (after ws []) (revisions_from ws [] 0 tt)) in
-    omega (arith, at_most, many ws, front_length ws prepared, within, small)
+bounded_of : (o : Option Repo) → IfSome o IsBounded → revision_of o < 4294967295
+bounded_of None h = omega arith
+bounded_of (Some repo) h = h.revision
+
+pub revision_small : (name : List ℕ) (ws : List Write) → AllByRecursion IsBounded (after ws []) → revision_of (repo_after name ws) < 4294967295
+revision_small name ws bounded = bounded_of (repo_after name ws) (known_all IsBounded name (after ws []) bounded)
 
 -- the files of a repository are in their order
 
@@ -171,11 +162,8 @@ unfolding IsStrictlySortedBy
 order_of None s = record { each = All-nil (λ (f : MarkedFile). IsPath f.path); rising = tt }
 order_of (Some repo) s = s.files
 
-pub files_in_order : (name : List ℕ) (ws prepared : List Write) → AllByRecursion IsWellFormed (ws ++ prepared) → ArePermitted (ws ++ prepared) [] → AreInOrder path_of (files_of (repo_after name ws))
-files_in_order name ws prepared fits permitted =
-    let orderly = all_weaker IsWellFormed IsOrderly (λ w h. h.orderly) ws (all_front IsWellFormed ws prepared fits) in
-    let sound = sound_from_nothing ws orderly (permitted_front ws prepared [] permitted) in
-    order_of (repo_after name ws) (known_all IsSound name (after ws []) sound.each)
+pub files_in_order : (name : List ℕ) (ws : List Write) → IsSoundStore (after ws []) → AreInOrder path_of (files_of (repo_after name ws))
+files_in_order name ws sound = order_of (repo_after name ws) (known_all IsSound name (after ws []) sound.each)
 
 -- whether there are changes
 
@@ -243,7 +231,16 @@ module _ (tells : Type 0) (files : List NamedFile) (name : List ℕ) (old : List
   write_refused limit FolderFault ne r = absurd r
   write_refused limit DiskFault ne r = tt
   write_refused limit (NotAJournal offset) ne r = absurd r
-  write_refused limit (Limit which number) ne r = inr (record { new = with_write name changes old; import = import_made ne; above = r.0; named = r.1; number_is = r.2 })
+  write_refused limit (Limit which number) ne r = inr (record {
+    kept = ready.kept;
+    passed = ready.passed;
+    base = ready.base;
+    new = with_write name changes old;
+    one = one_write name changes old ready.kept ready.prepared.difference ne;
+    above = r.0;
+    named = r.1;
+    number_is = r.2;
+  })
 
 pub read_refused : (tells : Type 0) (files : List NamedFile) (name : List ℕ) (limit : ℕ) (old : List Write) (error : CommandError) → IsReadRefusal tells files name error → IsImportRefusal tells files name limit old error
 read_refused tells files name limit old Memory r = tt

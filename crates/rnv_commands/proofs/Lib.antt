@@ -5,3 +5,4 @@ pub mod Printed
 pub mod Puts
 pub mod Refusals
 pub mod Stops
+pub mod Unique

@@ -17,6 +17,10 @@ pub if_ok : {T E : Type 0} (result : Result T E) (P Q : T → Type 0) (O : Type 
 if_ok (Ok value) P Q O f o h = f o value h
 if_ok (Err error) P Q O f o h = tt
 
+pub both_ok : {T E : Type 0} (result : Result T E) (P Q : Type 0) → OnOk result P → OnOk result Q → OnOk result (P × Q)
+both_ok (Ok value) P Q p q = (p, q)
+both_ok (Err error) P Q p q = tt
+
 four_pieces : (out a b c d one two three four : List ℕ) → one ≡ out ++ a → two ≡ one ++ b → three ≡ two ++ c → four ≡ three ++ d → four ≡ out ++ (a ++ (b ++ (c ++ d)))
 four_pieces out a b c d one two three four ha hb hc hd =
     hd ∙ ap (λ l. l ++ d) (hc ∙ ap (λ l. l ++ c) (hb ∙ ap (λ l. l ++ b) ha))

@@ -3,13 +3,15 @@ use Rattle.std.proofs.Common.{ℕ, List, [], Result, Ok, Err, IsErrOf, refl, sym
 use Rattle.std.specs.Prelude.{IfOk}
 use Rattle.rnv_base.specs.Causes.{FaultsBy}
 use Rattle.rnv_base.specs.Files.{NamedFile}
+use Rattle.rnv_disk.specs.Images.{Image}
+use Rattle.rnv_disk.specs.Stops.{Past}
 use Rattle.rnv_forge.specs.Store.{after}
 use Rattle.rnv_forge.specs.declared.write.Write.{Write}
 use Rattle.rnv_journal.specs.declared.start.StartError.{StartError}
 use Rattle.rnv_journal.specs.declared.start.StartError.TheVariants.{DiskFault as start_fault, NotAJournal as start_damaged, Memory as start_memory}
-use Rattle.rnv_store.specs.Start.{IsStoreRefusal, RefusedBy}
+use Rattle.rnv_store.specs.Start.{IsStoreRefusal, LeavesRefused, RefusedBy}
 use Rattle.rnv_commands.specs.Import.{IsImportRefusal}
-use Rattle.rnv_commands.specs.OnDisk.{IsNotImported, IsNotShown, IsStartRefusal, IsStored}
+use Rattle.rnv_commands.specs.OnDisk.{IsNotImported, IsNotShown, IsStartRefusal, IsStored, LeavesNoStore}
 use Rattle.rnv_commands.specs.Show.{IsShowRefusal}
 use Rattle.rnv_commands.specs.declared.error.CommandError.{CommandError}
 use Rattle.rnv_commands.specs.declared.error.CommandError.TheVariants.{Memory, UnknownRepo, FolderFault, DiskFault, NotAJournal, Limit}
@@ -60,3 +62,26 @@ start_cause before now start_memory answer is by = record { later = by.later; fa
 
 pub folder_still : (count : ℕ) (answer : CommandError) → ¬ (IsErrOf {T = List ℕ} (Err answer) FolderFault) → FaultsBy {T = List ℕ} count count (Err answer) FolderFault
 folder_still count answer never = record { later = omega arith; failed = λ folder. absurd (never folder) }
+
+-- what is left where the bytes are no store
+module _ (limit : ℕ) (old new : Image) (before now : Past) where
+  pub start_left : (error : StartError) (answer : CommandError) → IsStartRefusal error answer → LeavesRefused limit old new before now error → LeavesNoStore limit old new before now answer
+  start_left start_fault answer is left = subst (LeavesNoStore limit old new before now) (sym is) tt
+  start_left (start_damaged offset) answer is left = subst (LeavesNoStore limit old new before now) (sym is) left
+  start_left start_memory answer is left = subst (LeavesNoStore limit old new before now) (sym is) tt
+
+  pub import_left : (tells : Type 0) (files : List NamedFile) (name : List ℕ) (most : ℕ) (ws : List Write) (error : CommandError) → IsImportRefusal tells files name most ws error → LeavesNoStore limit old new before now error
+  import_left tells files name most ws Memory r = tt
+  import_left tells files name most ws UnknownRepo r = tt
+  import_left tells files name most ws FolderFault r = tt
+  import_left tells files name most ws DiskFault r = tt
+  import_left tells files name most ws (NotAJournal offset) r = absurd r
+  import_left tells files name most ws (Limit which number) r = tt
+
+  pub show_left : (file : List ℕ) (writes : List Write) → IsStored limit file writes → (name : List ℕ) (error : CommandError) → IsShowRefusal (after writes []) name error → LeavesNoStore limit old new before now error
+  show_left file writes stored name Memory r = tt
+  show_left file writes stored name UnknownRepo r = tt
+  show_left file writes stored name FolderFault r = tt
+  show_left file writes stored name DiskFault r = tt
+  show_left file writes stored name (NotAJournal offset) r = absurd r
+  show_left file writes stored name (Limit which number) r = tt

@@ -8,7 +8,7 @@ use Rattle.rnv_forge.specs.Store.{ArePermitted}
 use Rattle.rnv_forge.specs.WellFormed.{IsWellFormed}
 use Rattle.rnv_forge.specs.declared.write.Write.{Write}
 use Rattle.rnv_journal.specs.Reading.{EachReading, ReadsAs}
-use Rattle.rnv_journal.specs.Readings.{HasReadingsNow, IsAtRest, IsReadingNow, KeepsReadings, ReadsOnly}
+use Rattle.rnv_journal.specs.Readings.{HasReadingsNow, IsAtRest, IsReadingNow, KeepsOne, KeepsReadings, ReadsOnly}
 use Rattle.rnv_journal.proofs.Uses.{reads_first, reads_then, reads_weaker}
 use Rattle.rnv_payload.specs.Spelling.{spelling}
 use Rattle.rnv_store.specs.Forge.{IsOldOrNext, LeavesWrites, SpellSome}
@@ -74,6 +74,12 @@ leaves_at past n limit old P back disk same is run = subst (λ d. LeavesWrites l
 
 pub rest_at : {D : Type 0} (past : D → Past) (n limit : ℕ) (list : List (List ℕ)) (back disk : D) → n ≡ limit → back ≡ disk → IsAtRest n (past disk) list → IsAtRest limit (past back) list
 rest_at past n limit list back disk same is rest = subst (λ d. IsAtRest limit (past d) list) (sym is) (subst (λ (m : ℕ). IsAtRest m (past disk) list) same rest)
+
+pub keeps_at : {D : Type 0} (past : D → Past) (limit : ℕ) (old : Past) (back disk : D) → back ≡ disk → KeepsReadings limit old (past disk) → KeepsReadings limit old (past back)
+keeps_at past limit old back disk is keeps = subst (λ d. KeepsReadings limit old (past d)) (sym is) keeps
+
+pub one_at : {D : Type 0} (past : D → Past) (old : Past) (back disk : D) → back ≡ disk → KeepsOne old (past disk) → KeepsOne old (past back)
+one_at past old back disk is keeps = subst (λ d. KeepsOne old (past d)) (sym is) keeps
 
 -- what a disk is read as on entry
 pub read_on_entry : (limit : ℕ) (past : Past) (seen : Image) (list : List (List ℕ)) → LeftNow past seen → ReadsAs limit seen.zero list → IsReadingNow limit past list

@@ -6,10 +6,10 @@ use Rattle.std.specs.Ordering.{nat_cmp}
 use Rattle.std.specs.Cmp.Lexicographic.{slice_cmp}
 use Rattle.rnv_base.specs.Files.{NamedFile}
 use Rattle.rnv_base.specs.Names.{IsPath}
-use Rattle.rnv_forge.specs.Base.{changed, is_changing, path_of}
+use Rattle.rnv_forge.specs.Base.{changed, differs, is_changing, path_of}
 use Rattle.rnv_forge.specs.Files.{MarkedFile, PathChange}
 use Rattle.rnv_forge.specs.Merging.{change_path}
-use Rattle.rnv_forge.specs.Named.{IsRisingBy}
+use Rattle.rnv_forge.specs.Named.{IsRisingBy, at}
 
 -- the files of a base without their marks
 abbrev pub plain : List MarkedFile → List NamedFile
@@ -30,12 +30,14 @@ abbrev pub IsBelow : {X : Type 0} → (X → List ℕ) → List ℕ → List X �
 IsBelow key path xs = AllByRecursion (λ x. slice_cmp nat_cmp path (key x) ≡ Less) xs
 
 -- The changes make the base of these old files the new ones, whatever the revision; each is at a path of one of them, and they
--- rise. Where there are any, they change the base, and there are none where the files are the old ones.
+-- rise. Each differs from the old file at its path, so no other changes are so: where there are any, they change the base, and
+-- there are none where the files are the old ones.
 pub record IsDifference (old : List MarkedFile) (new : List NamedFile) (changes : List PathChange) : Type 0 where
   pub makes : (revision : ℕ) → plain (changed revision changes old) ≡ new
   pub rising : IsRisingBy change_path changes
   pub paths : AllByRecursion (λ f. IsPath f.path) old → AllByRecursion (λ f. IsPath f.path) new → AllByRecursion (λ c. IsPath c.path) changes
   pub below : (path : List ℕ) → IsBelow path_of path old → IsBelow named_path path new → IsBelow change_path path changes
+  pub each : AllByRecursion (λ c. differs c.bytes (at path_of c.path old) ≡ true) changes
   pub changing : changes ≢ [] → is_changing changes old ≡ true
   pub none : plain old ≡ new → changes ≡ []
 

@@ -30,11 +30,18 @@ revision_of (Some repo) = repo.revision
 abbrev pub repo_after : List ℕ → List Write → Option Repo
 repo_after name ws = known name (after ws [])
 
+-- the one write of an import: of the changes by which these files differ from the base, of which there are some
+pub record IsOneWrite (name : List ℕ) (kept : List NamedFile) (old new : List Write) : Type 0 where
+  pub changes : List PathChange
+  pub difference : IsDifference (files_of (repo_after name old)) kept changes
+  pub some : changes ≢ []
+  pub is : new ≡ old ++ SetBase name changes ∷ []
+
 -- An import makes the base of the repository of this name these files. There is one write more, or none where the base was these files
 -- before, and no other repository changes.
 pub record IsImported (name : List ℕ) (kept : List NamedFile) (old new : List Write) : Type 0 where
   pub base : plain (files_of (repo_after name new)) ≡ kept
-  pub one : (new ≡ old) ⊎ ((changes : List PathChange) × (new ≡ old ++ SetBase name changes ∷ []))
+  pub one : (new ≡ old) ⊎ IsOneWrite name kept old new
   pub none : plain (files_of (repo_after name old)) ≡ kept → new ≡ old
   pub others : (other : List ℕ) → other ≢ name → repo_after other new ≡ repo_after other old
 
@@ -64,10 +71,13 @@ pub record PrintsImport (tells : Type 0) (files : List NamedFile) (name : List �
 abbrev pub IsOldOrImport : Type 0 → List NamedFile → List ℕ → List Write → List Write → Type 0
 IsOldOrImport tells files name old ws = (ws ≡ old) ⊎ IsImport tells files name old ws
 
--- the write of the import would make the journal longer than its limit
+-- the one write of the import would make the journal longer than its limit
 pub record HasNoRoom (tells : Type 0) (files : List NamedFile) (name : List ℕ) (limit : ℕ) (old : List Write) (which : List ℕ) (number : ℕ) : Type 0 where
+  pub kept : List NamedFile
+  pub passed : ℕ
+  pub base : IsFolderBase tells files name kept passed
   pub new : List Write
-  pub import : IsImport tells files name old new
+  pub one : IsOneWrite name kept old new
   pub above : limit < length_of new
   pub named : which ≡ codes "journal"
   pub number_is : number ≡ limit

@@ -1,7 +1,8 @@
 -- What the commands make of the store on a disk.
-use Rattle.std.specs.Prelude.{◌≡◌, ◌⊎◌, ℕ, List, [], map}
+use Rattle.std.specs.Prelude.{◌≡◌, ◌≤◌, ◌⊎◌, ℕ, List, [], map}
 use Rattle.std.specs.List.{AllByRecursion}
 use Rattle.rnv_base.specs.Files.{NamedFile}
+use Rattle.rnv_disk.specs.Images.{Image}
 use Rattle.rnv_disk.specs.Stops.{Past}
 use Rattle.rnv_forge.specs.Store.{ArePermitted, after}
 use Rattle.rnv_forge.specs.WellFormed.{IsWellFormed}
@@ -11,7 +12,8 @@ use Rattle.rnv_journal.specs.Readings.{IsAtRest, IsReadingNow}
 use Rattle.rnv_journal.specs.declared.start.StartError.{StartError}
 use Rattle.rnv_journal.specs.declared.start.StartError.TheVariants.{DiskFault as start_fault, NotAJournal as start_damaged, Memory as start_memory}
 use Rattle.rnv_payload.specs.Spelling.{spelling}
-use Rattle.rnv_store.specs.Start.{IsStoreRefusal}
+use Rattle.rnv_store.specs.Start.{IsStoreRefusal, LeavesRefused}
+use Rattle.rnv_store.specs.Writes.{length_of}
 use Rattle.rnv_commands.specs.Import.{IsImport, IsImportRefusal, PrintsImport}
 use Rattle.rnv_commands.specs.Show.{IsShowRefusal, Shows}
 use Rattle.rnv_commands.specs.declared.error.CommandError.{CommandError}
@@ -33,6 +35,15 @@ IsStartRefusal start_fault error = error ≡ DiskFault
 IsStartRefusal (start_damaged offset) error = error ≡ NotAJournal offset
 IsStartRefusal start_memory error = error ≡ Memory
 
+-- What a command leaves of a disk whose bytes are no store: a file that is no journal is not written to, and a journal loses nothing.
+abbrev pub LeavesNoStore : ℕ → Image → Image → Past → Past → CommandError → Type 0
+LeavesNoStore limit old new before now Memory = Unit {0}
+LeavesNoStore limit old new before now UnknownRepo = Unit {0}
+LeavesNoStore limit old new before now FolderFault = Unit {0}
+LeavesNoStore limit old new before now DiskFault = Unit {0}
+LeavesNoStore limit old new before now (NotAJournal offset) = LeavesRefused limit old new before now (start_damaged offset)
+LeavesNoStore limit old new before now (Limit which number) = Unit {0}
+
 -- a reading that stood on entry, spelling old writes, and behind these the one write of an import
 pub record IsReadingAndImport (tells : Type 0) (files : List NamedFile) (name : List ℕ) (limit : ℕ) (past : Past) (list : List (List ℕ)) : Type 0 where
   pub old : List Write
@@ -45,10 +56,11 @@ pub record IsReadingAndImport (tells : Type 0) (files : List NamedFile) (name : 
 abbrev pub IsReadingOrImport : Type 0 → List NamedFile → List ℕ → ℕ → Past → List (List ℕ) → Type 0
 IsReadingOrImport tells files name limit past list = IsReadingNow limit past list ⊎ IsReadingAndImport tells files name limit past list
 
--- an import into the writes that stood, which leaves the disk at rest with the new writes, and what is printed of it
+-- an import into the writes that stood, which leaves the disk at rest with the new writes, for which there is room, and what is printed of it
 pub record LeavesImported (tells : Type 0) (files : List NamedFile) (name : List ℕ) (limit : ℕ) (old : List Write) (past : Past) (text : List ℕ) : Type 0 where
   pub new : List Write
   pub prints : PrintsImport tells files name old new text
+  pub room : length_of new ≤ limit
   pub at_rest : IsAtRest limit past (map spelling new)
 
 -- an import into the store of a file, which leaves the disk at rest with the new writes, and what is printed of it

@@ -4,8 +4,9 @@ ghost use Rattle.std.specs.Ordering.{is_lt, nat_cmp};
 ghost use Rattle.std.specs.Cmp.Lexicographic.{slice_cmp};
 ghost use Rattle.std.specs.Str.{bytes_eq};
 ghost use Rattle.rnv_commands.specs.Difference.{removal, setting, named_path, IsDifference, IsTurn};
+ghost use Rattle.rnv_base.specs.Files.{NamedFile};
 ghost use Rattle.rnv_forge.specs.Base.{path_of};
-ghost use Rattle.rnv_forge.specs.Files.{MarkedFile};
+ghost use Rattle.rnv_forge.specs.Files.{MarkedFile, PathChange};
 ghost use Rattle.rnv_forge.specs.Named.{IsRisingBy};
 
 use rnv_base::{List, Share, Text};
@@ -121,3 +122,9 @@ pub(crate) fn changes_of(
     add_removals(alloc, &mut changes, left)?;
     Ok(changes)
 }
+
+/// The changes that rise, make these files of the old ones and differ each from the old file at their
+/// path are the only ones.
+pub fn one_difference()
+    ensures { (old : Items MarkedFile) (new : Items NamedFile) (cs ds : Items PathChange) → IsDifference old new cs → IsDifference old new ds → cs ≡ ds }
+{}

@@ -10,9 +10,9 @@ ghost use Rattle.rnv_forge.specs.Named.{IsRisingBy};
 ghost use Rattle.rnv_forge.specs.WellFormed.{AreInOrder};
 ghost use Rattle.rnv_forge.specs.declared.write.Write.TheVariants.{SetBase};
 ghost use Rattle.rnv_forge.specs.Store.{IsPermitted, after};
-ghost use Rattle.rnv_journal.specs.Readings.{IsAtRest};
+ghost use Rattle.rnv_journal.specs.Readings.{IsAtRest, KeepsOne};
 ghost use Rattle.rnv_payload.specs.Spelling.{spelling};
-ghost use Rattle.rnv_store.specs.Forge.{IsOldOrNext, LeavesWrites};
+ghost use Rattle.rnv_store.specs.Forge.{IsOldOrNext, IsSamePast, LeavesWrites};
 ghost use Rattle.rnv_store.specs.Writes.{length_of};
 
 use crate::CommandError;
@@ -141,7 +141,6 @@ fn import_of<F: Forge>(
     base: FolderBase,
 ) -> Result<Import, AllocError>
     requires holds { F.holds forge.now }
-    requires small { F.limit forge.now ≤ 4294967295 }
     requires order { AreInOrder (λ f. f.path) base.files }
     ensures { IfOk result (λ import. IsPrepared base.files base.passed (repo_after name.now (F.writes forge.now)) import.changes import.text) }
 {
@@ -157,7 +156,6 @@ fn read_import<F: Forge, O: Folder>(
     name: &Text,
 ) -> Result<Import, CommandError>
     requires holds { F.holds forge.now }
-    requires small { F.limit forge.now ≤ 4294967295 }
     ensures ready { IfOk result (λ import. IsReady O.tells (O.files folder.old) name.now (F.writes forge.now) import.changes import.text) }
     ensures refused { IfErr result (IsReadRefusal O.tells (O.files folder.old) name.now) }
     ensures same { O.tells → (O.files folder.new ≡ O.files folder.old) }
@@ -215,7 +213,9 @@ fn prepare_base<F: Forge>(
     requires permitted { IsPermitted (SetBase name.now changes) (after (F.writes forge.old) []) }
     ensures holds { F.holds forge.new }
     ensures any_moment { LeavesWrites (F.limit forge.old) (F.past forge.old) (F.past forge.new) (λ ws. ws ≡ F.writes forge.old) }
+    ensures past { IsSamePast (F.past forge.old) (F.past forge.new) }
     ensures ok { OnOk result (F.prepared forge.new ≡ SetBase name.now changes ∷ []) }
+    ensures within { OnOk result (length_of (F.writes forge.old ++ SetBase name.now changes ∷ []) ≤ F.limit forge.old) }
     ensures writes { F.writes forge.new ≡ F.writes forge.old }
     ensures opened { F.closed forge.new ≡ false }
     ensures limit { F.limit forge.new ≡ F.limit forge.old }
@@ -248,7 +248,9 @@ fn write_base<F: Forge>(
     ensures holds { F.holds forge.new }
     ensures any_moment { LeavesWrites (F.limit forge.old) (F.past forge.old) (F.past forge.new) (IsOldOrNext (F.writes forge.old) (SetBase name.now changes ∷ [])) }
     ensures unwritten { IfErr result (λ error. error ≢ disk_fault → LeavesWrites (F.limit forge.old) (F.past forge.old) (F.past forge.new) (λ ws. ws ≡ F.writes forge.old)) }
+    ensures other { KeepsOne (F.past forge.old) (F.past forge.new) }
     ensures ok { OnOk result (F.writes forge.new ≡ F.writes forge.old ++ SetBase name.now changes ∷ []) }
+    ensures room { OnOk result (length_of (F.writes forge.old ++ SetBase name.now changes ∷ []) ≤ F.limit forge.old) }
     ensures opened { OnOk result (F.closed forge.new ≡ false) }
     ensures limit { F.limit forge.new ≡ F.limit forge.old }
     ensures refused { IfErr result (IsWriteRefusal (F.limit forge.old) (F.writes forge.old ++ SetBase name.now changes ∷ [])) }
@@ -267,8 +269,8 @@ fn write_base<F: Forge>(
 /// Makes the base of a repository the files that the folder has for it, and gives the text
 /// `imported N files, revision R` and `passed over P`. One write is done, or none where nothing
 /// differs. `FolderFault` only where the folder's count of faults rose; `Limit` where the folder has
-/// more than a base may have; `UnknownRepo` where it has none; `Limit` of `journal` where the write
-/// has no room; `DiskFault` only where the disk's count rose; `Memory`. No refusal but that of the
+/// more than a base may have; `UnknownRepo` where it has none; `Limit` of `journal` exactly where the
+/// one write, of the changes by which the files differ from the base, has no room; `DiskFault` only where the disk's count rose; `Memory`. No refusal but that of the
 /// disk has written anything.
 pub fn import_base<F: Forge, O: Folder>(
     alloc: Global,
@@ -278,13 +280,14 @@ pub fn import_base<F: Forge, O: Folder>(
 ) -> Result<List<u8>, CommandError>
     requires holds { F.holds forge.old }
     requires opened { F.closed forge.old ≡ false }
-    requires small { F.limit forge.old ≤ 4294967295 }
     requires name { IsRepositoryName name.now }
     ensures holds { F.holds forge.new }
     // A stop at any moment leaves the writes from before, or those and the one next write.
     ensures any_moment { LeavesWrites (F.limit forge.old) (F.past forge.old) (F.past forge.new) (IsOldOrImport O.tells (O.files folder.old) name.now (F.writes forge.old)) }
     ensures unwritten { IfErr result (λ error. error ≢ disk_fault → LeavesWrites (F.limit forge.old) (F.past forge.old) (F.past forge.new) (λ ws. ws ≡ F.writes forge.old)) }
+    ensures other { KeepsOne (F.past forge.old) (F.past forge.new) }
     ensures done { IfOk result (PrintsImport O.tells (O.files folder.old) name.now (F.writes forge.old) (F.writes forge.new)) }
+    ensures room { OnOk result (length_of (F.writes forge.new) ≤ F.limit forge.old) }
     ensures at_rest { OnOk result (IsAtRest (F.limit forge.old) (F.past forge.new) (map spelling (F.writes forge.new))) }
     ensures limit { F.limit forge.new ≡ F.limit forge.old }
     ensures refused { IfErr result (IsImportRefusal O.tells (O.files folder.old) name.now (F.limit forge.old) (F.writes forge.old)) }

@@ -11,6 +11,7 @@ mod show;
 #[cfg(test)]
 mod tests;
 
+pub use difference::one_difference;
 pub use error::CommandError;
 pub use import::import_base;
 pub use on_disk::{Answer, import_on, show_on};

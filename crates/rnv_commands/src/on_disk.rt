@@ -4,10 +4,10 @@ ghost use Rattle.rnv_base.specs.Causes.{FaultsBy};
 ghost use Rattle.rnv_base.specs.Names.{IsRepositoryName};
 ghost use Rattle.rnv_commands.specs.declared.error.CommandError.TheVariants.{DiskFault as disk_fault, FolderFault as folder_fault};
 ghost use Rattle.rnv_commands.specs.Import.{IsImportRefusal, IsOldOrImport};
-ghost use Rattle.rnv_commands.specs.OnDisk.{LeavesImported, HasImported, IsNotImported, IsNotShown, IsReadingOrImport, IsShownOf, IsStartRefusal};
+ghost use Rattle.rnv_commands.specs.OnDisk.{LeavesImported, HasImported, IsNotImported, IsNotShown, IsReadingOrImport, IsShownOf, IsStartRefusal, LeavesNoStore};
 ghost use Rattle.rnv_forge.specs.Store.{ArePermitted};
 ghost use Rattle.rnv_forge.specs.WellFormed.{IsWellFormed};
-ghost use Rattle.rnv_journal.specs.Readings.{HasReadingsNow, KeepsReadings, ReadsOnly};
+ghost use Rattle.rnv_journal.specs.Readings.{HasReadingsNow, KeepsOne, KeepsReadings, ReadsOnly};
 ghost use Rattle.rnv_store.specs.Forge.{LeavesWrites};
 
 use crate::{CommandError, import_base, show_repo};
@@ -57,6 +57,7 @@ fn import_started<D: Disk, O: Folder>(
     requires name { IsRepositoryName name.now }
     ensures any_moment { LeavesWrites 268435456 (⟦<JournalForge<D> as Forge>⟧.past forge) (D.past result.disk) (IsOldOrImport O.tells (O.files folder.old) name.now (⟦<JournalForge<D> as Forge>⟧.writes forge)) }
     ensures unwritten { IfErr result.text (λ error. error ≢ disk_fault → LeavesWrites 268435456 (⟦<JournalForge<D> as Forge>⟧.past forge) (D.past result.disk) (λ ws. ws ≡ ⟦<JournalForge<D> as Forge>⟧.writes forge)) }
+    ensures other { KeepsOne (⟦<JournalForge<D> as Forge>⟧.past forge) (D.past result.disk) }
     ensures imported { IfOk result.text (LeavesImported O.tells (O.files folder.old) name.now 268435456 (⟦<JournalForge<D> as Forge>⟧.writes forge) (D.past result.disk)) }
     ensures refused { IfErr result.text (IsImportRefusal O.tells (O.files folder.old) name.now 268435456 (⟦<JournalForge<D> as Forge>⟧.writes forge)) }
     ensures same { O.tells → (O.files folder.new ≡ O.files folder.old) }
@@ -73,7 +74,8 @@ fn import_started<D: Disk, O: Folder>(
 
 /// Imports the folder's files of a repository into the store of a disk, whose journal has at most
 /// 268435456 bytes, as `import_base` does. Before that: `DiskFault` only where the disk's count of
-/// faults rose; `NotAJournal` where its bytes are no store, with the offset.
+/// faults rose; `NotAJournal` where its bytes are no store, with the offset: bytes that are no journal
+/// are then not written to, and a journal keeps all of its entries. File `One` is left alone.
 pub fn import_on<D: Disk, O: Folder>(
     alloc: Global,
     disk: D,
@@ -84,6 +86,9 @@ pub fn import_on<D: Disk, O: Folder>(
     // From a disk that has readings a stop at any moment leaves one of these, or one of these and the one next write.
     ensures any_moment { HasReadingsNow 268435456 (D.past disk) → ReadsOnly 268435456 (D.past disk) (D.past result.disk) (IsReadingOrImport O.tells (O.files folder.old) name.now 268435456 (D.past disk)) }
     ensures unwritten { IfErr result.text (λ error. error ≢ disk_fault → KeepsReadings 268435456 (D.past disk) (D.past result.disk)) }
+    // File `One` is left alone, and what is no store is not written over.
+    ensures other { KeepsOne (D.past disk) (D.past result.disk) }
+    ensures left { D.tells → IfErr result.text (LeavesNoStore 268435456 (D.seen disk) (D.seen result.disk) (D.past disk) (D.past result.disk)) }
     ensures imported { D.tells → IfOk result.text (HasImported O.tells (O.files folder.old) name.now 268435456 (D.seen disk).zero (D.past result.disk)) }
     ensures refused { D.tells → IfErr result.text (IsNotImported O.tells (O.files folder.old) name.now 268435456 (D.seen disk).zero) }
     ensures same { O.tells → (O.files folder.new ≡ O.files folder.old) }
@@ -104,10 +109,13 @@ pub fn import_on<D: Disk, O: Folder>(
 
 /// The text that shows a repository of the store of a disk, whose journal has at most 268435456
 /// bytes. `DiskFault` only where the disk's count of faults rose; `NotAJournal` where its bytes are
-/// no store, with the offset; `UnknownRepo` where the store has none of the name; `Memory`. Writes
-/// nothing.
+/// no store, with the offset, and then they stay; `UnknownRepo` where the store has none of the name;
+/// `Memory`. Adds no entry, and leaves file `One` alone.
 pub fn show_on<D: Disk>(alloc: Global, disk: D, name: &Text) -> Answer<D>
     ensures any_moment { KeepsReadings 268435456 (D.past disk) (D.past result.disk) }
+    // File `One` is left alone, and what is no store is not written over.
+    ensures other { KeepsOne (D.past disk) (D.past result.disk) }
+    ensures left { D.tells → IfErr result.text (LeavesNoStore 268435456 (D.seen disk) (D.seen result.disk) (D.past disk) (D.past result.disk)) }
     ensures shown { D.tells → IfOk result.text (IsShownOf name.now 268435456 (D.seen disk).zero) }
     ensures refused { D.tells → IfErr result.text (IsNotShown name.now 268435456 (D.seen disk).zero) }
     ensures never { ¬ IsErrOf result.text folder_fault }

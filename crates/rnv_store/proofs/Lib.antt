@@ -3,6 +3,7 @@ pub mod Checking
 pub mod Each
 pub mod Folding
 pub mod InMemory
+pub mod Kept
 pub mod Preparing
 pub mod Revisions
 pub mod Starting

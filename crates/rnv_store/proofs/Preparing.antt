@@ -1,6 +1,5 @@
 -- What is prepared in the journal of a store.
-use Rattle.std.proofs.Common.{◌≡◌, ◌≤◌, ◌-◌, ◌^◌, ℕ, false, List, [], ◌++◌, length, min, Result, Ok, Err, refl, sym, ap, subst, ◌∙◌, arith, append-nil}
-use Rattle.std.specs.Prelude.{OnErr, OnOk}
+use Rattle.std.proofs.Common.{◌≡◌, ◌≤◌, ◌-◌, ◌^◌, ℕ, true, false, List, [], ◌++◌, length, min, refl, sym, ap, subst, ◌∙◌, arith, append-nil}
 use Rattle.rnv_disk.specs.Stops.{Past}
 use Rattle.rnv_forge.specs.declared.write.Write.{Write}
 use Rattle.rnv_forge.specs.Store.{ArePermitted, IsSoundStore, after}
@@ -64,6 +63,10 @@ module _ (held : Held) (past : Past) (h : HoldsWrites held past) where
     rests = h.rests;
   })
 
+  -- a fault has closed the journal
+  pub held_closed : (new : Past) → HoldsWrites (record held { closed = true }) new
+  held_closed new = record { entries = h.entries; prepared = h.prepared; permitted = h.permitted; within = h.within; small = h.small; rests = λ open'. absurd cc }
+
   pub held_stays : held.closed ≡ false → LeavesWrites held.limit past past (λ ws. ws ≡ writes_in held.entries)
   held_stays open' =
       let here : SpellSome (λ ws. ws ≡ writes_in held.entries) held.entries = record { writes = writes_in held.entries; spelled = h.entries; each = refl } in
@@ -80,12 +83,3 @@ too_long_of held new ps qs n most is long =
 
 pub permitted_of : (held new : Held) (qs : List (List ℕ)) (ws : List Write) → new ≡ record held { prepared = qs } → ArePermitted ws (after (writes_in new.entries) []) → ArePermitted ws (after (writes_in held.entries) [])
 permitted_of held new qs ws is permitted = subst (λ (h : Held). ArePermitted ws (after (writes_in h.entries) [])) is permitted
-
--- by what was answered
-pub either_way : {T E : Type 0} {A B C : Type 0} (r : Result T E) → OnOk r A → OnErr r B → (A → C) → (B → C) → C
-either_way (Ok x) a b f h = f a
-either_way (Err e) a b f h = h b
-
-pub ok_then : {T E : Type 0} {A B : Type 0} (r : Result T E) → OnOk r A → (A → B) → OnOk r B
-ok_then (Ok x) a f = f a
-ok_then (Err e) a f = tt

@@ -92,22 +92,20 @@ module _ (held : Held) (past : Past) (h : HoldsWrites held past) where
         each = inr refl;
       }
 
+  -- all of them are those from before
+  pub next_whole : writes_in (held.entries ++ take 1 held.prepared) ++ writes_in (drop 1 held.prepared) ≡ writes_in held.entries ++ writes_in held.prepared
+  next_whole =
+      ap (λ (l : List Write). l ++ writes_in (drop 1 held.prepared)) next_writes
+      ∙ ap (λ (l : List Write). (writes_in held.entries ++ take 1 (writes_in held.prepared)) ++ l) next_prepared
+      ∙ append_assoc (writes_in held.entries) (take 1 (writes_in held.prepared)) (drop 1 (writes_in held.prepared))
+      ∙ ap (λ (l : List Write). writes_in held.entries ++ l) (take-append-drop 1 (writes_in held.prepared))
+
   pub next_holds : (new : Past) → IsAtRest held.limit new (held.entries ++ take 1 held.prepared) → HoldsWrites (appended held) new
   next_holds new rest = record {
     entries = subst (λ (l : List Write). IsSpelledBy (held.entries ++ take 1 held.prepared) l) (sym next_writes) next_entries;
     prepared = subst (λ (l : List Write). IsSpelledBy (drop 1 held.prepared) l) (sym next_prepared) parts.others;
-    permitted = subst (λ (l : List Write). ArePermitted l []) (sym whole) h.permitted;
-    within = subst (λ (l : List (List ℕ)). counted l ≤ held.limit) (sym (append_assoc held.entries (take 1 held.prepared) (drop 1 held.prepared) ∙ ap (λ (l : List (List ℕ)). held.entries ++ l) (both 1 held.prepared))) h.within;
+    permitted = subst (λ (l : List Write). ArePermitted l []) (sym next_whole) h.permitted;
+    within = subst (λ (l : List (List ℕ)). counted l ≤ held.limit) (sym (append_assoc held.entries (take 1 held.prepared) (drop 1 held.prepared) ∙ ap (λ (l : List (List ℕ)). held.entries ++ l) (take-append-drop 1 held.prepared))) h.within;
     small = h.small;
     rests = λ open'. rest;
   }
-    where
-      both : {X : Type 0} (n : ℕ) (xs : List X) → take n xs ++ drop n xs ≡ xs
-      both n xs = take-append-drop n xs
-
-      whole : writes_in (held.entries ++ take 1 held.prepared) ++ writes_in (drop 1 held.prepared) ≡ writes_in held.entries ++ writes_in held.prepared
-      whole =
-          ap (λ (l : List Write). l ++ writes_in (drop 1 held.prepared)) next_writes
-          ∙ ap (λ (l : List Write). (writes_in held.entries ++ take 1 (writes_in held.prepared)) ++ l) next_prepared
-          ∙ append_assoc (writes_in held.entries) (take 1 (writes_in held.prepared)) (drop 1 (writes_in held.prepared))
-          ∙ ap (λ (l : List Write). writes_in held.entries ++ l) (both 1 (writes_in held.prepared))

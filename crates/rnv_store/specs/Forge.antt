@@ -1,5 +1,6 @@
 -- What a stop may leave of a forge's writes, and what its calls answer.
-use Rattle.std.specs.Prelude.{◌≡◌, ◌⊎◌, ◌<◌, ℕ, ◌^◌, ◌-◌, List, [], ◌++◌, min, take}
+use Rattle.std.specs.Prelude.{◌≡◌, ◌⊎◌, ◌↔◌, ◌<◌, ℕ, ◌^◌, ◌-◌, List, [], ◌++◌, min, take}
+use Rattle.rnv_disk.specs.Images.{Image}
 use Rattle.rnv_disk.specs.Stops.{Past}
 use Rattle.rnv_forge.specs.declared.write.Write.{Write}
 use Rattle.rnv_forge.specs.Store.{ArePermitted, after}
@@ -15,6 +16,11 @@ pub record SpellSome (P : List Write → Type 0) (payloads : List (List ℕ)) : 
 -- A stop at some moment since old leaves a disk that has readings, and each of them spells writes that are so.
 abbrev pub LeavesWrites : ℕ → Past → Past → (List Write → Type 0) → Type 0
 LeavesWrites limit old new P = ReadsOnly limit old new (SpellSome P)
+
+-- the moment is the same, and what stops since each moment may have left
+pub record IsSamePast (old new : Past) : Type 0 where
+  pub moment : new.moment ≡ old.moment
+  pub left : (t : ℕ) (c : Image) → new.left t c ↔ old.left t c
 
 -- these writes, or these and the first of those that are prepared
 abbrev pub IsOldOrNext : List Write → List Write → List Write → Type 0

@@ -1,6 +1,7 @@
 -- What the journal of a store holds.
-use Rattle.std.specs.Prelude.{◌≡◌, ◌≤◌, ℕ, false, List, [], ◌++◌}
+use Rattle.std.specs.Prelude.{◌≡◌, ◌≤◌, ℕ, false, List, [], ◌++◌, Option, IfSome}
 use Rattle.rnv_disk.specs.Stops.{Past}
+use Rattle.rnv_forge.specs.declared.repo.Repo.{Repo}
 use Rattle.rnv_forge.specs.declared.write.Write.{Write}
 use Rattle.rnv_forge.specs.Store.{ArePermitted, after}
 use Rattle.rnv_journal.specs.File.{counted}
@@ -17,6 +18,16 @@ pub record HoldsWrites (held : Held) (past : Past) : Type 0 where
   pub within : counted (held.entries ++ held.prepared) ≤ held.limit
   pub small : held.limit ≤ 4294967295
   pub rests : held.closed ≡ false → IsAtRest held.limit past held.entries
+
+-- the store that the entries and then what is prepared make
+abbrev pub IsStoreOf : Held → List Repo → Type 0
+IsStoreOf held store = store ≡ after (writes_in held.entries ++ writes_in held.prepared) []
+
+-- A journal of a store, and beside it that store, if one is kept: of the entries and of what is prepared, so that a write which
+-- is done changes nothing of it.
+pub record HoldsStore (store : Option (List Repo)) (held : Held) (past : Past) : Type 0 where
+  pub writes : HoldsWrites held past
+  pub kept : IfSome store (IsStoreOf held)
 
 -- the journal has these writes prepared, which are permitted in their turn and within the limit
 pub record IsPrepared (old : Held) (ws : List Write) (new : Held) : Type 0 where

@@ -1,10 +1,17 @@
 -- The laws of a store's journal.
-use Rattle.std.proofs.Common.{◌≡◌, ◌≤◌, ℕ, false, List, [], ◌∷◌, ◌++◌, map, refl, sym, ◌∙◌, ap, subst, arith}
+use Rattle.std.proofs.Common.{◌≡◌, ◌+◌, ◌*◌, ◌≤◌, ◌<◌, ℕ, false, List, [], ◌∷◌, ◌++◌, length, map, refl, sym, ◌∙◌, ap, subst, arith}
 use Rattle.std.specs.List.{AllByRecursion}
 use Rattle.std.proofs.lemmas.List.{map-append}
 use Rattle.rnv_disk.specs.Stops.{Past}
+use Rattle.rnv_forge.specs.declared.request.Request.{Request}
+use Rattle.rnv_forge.specs.declared.repo.Repo.{Repo}
 use Rattle.rnv_forge.specs.declared.write.Write.{Write}
-use Rattle.rnv_forge.specs.WellFormed.{IsWellFormed}
+use Rattle.rnv_forge.specs.Bounded.{IsBounded}
+use Rattle.rnv_forge.specs.Store.{ArePermitted, IsSoundStore, after, applied}
+use Rattle.rnv_forge.specs.WellFormed.{IsOrderly, IsWellFormed}
+use Rattle.rnv_forge.proofs.Bounds.{IsWithin, within_after}
+use Rattle.rnv_forge.proofs.Sound.{sound_from_nothing}
+use Rattle.rnv_forge.proofs.Texts.{all_weaker}
 use Rattle.rnv_journal.specs.File.{counted}
 use Rattle.rnv_journal.specs.Held.{Held}
 use Rattle.rnv_journal.specs.Readings.{IsAtRest}
@@ -26,6 +33,37 @@ spelled_both ps qs vs ws a b = record {
 pub length_counted : (ws : List Write) → counted (map spelling ws) ≡ length_of ws
 length_counted [] = refl
 length_counted (w ∷ ws) = omega (arith, length_counted ws)
+
+-- what holds of the writes that stand, and of the store that they make
+
+all_standing : {X : Type 0} (P : X → Type 0) (xs ys : List X) → AllByRecursion P (xs ++ ys) → AllByRecursion P xs
+all_standing P [] ys a = tt
+all_standing P (x ∷ xs) ys a = (a.0, all_standing P xs ys a.1)
+
+permitted_standing : (vs ws : List Write) (store : List Repo) → ArePermitted (vs ++ ws) store → ArePermitted vs store
+permitted_standing [] ws store p = tt
+permitted_standing (v ∷ vs) ws store p = (p.0, permitted_standing vs ws (applied v store) p.1)
+
+few_standing : (vs ws : List Write) → 5 * length vs + 14 ≤ length_of (vs ++ ws)
+few_standing [] [] = omega arith
+few_standing [] (w ∷ ws) = omega (arith, few_standing [] ws)
+few_standing (v ∷ vs) ws = omega (arith, few_standing vs ws)
+
+pub store_sound : (ws prepared : List Write) → AllByRecursion IsWellFormed (ws ++ prepared) → ArePermitted (ws ++ prepared) [] → IsSoundStore (after ws [])
+store_sound ws prepared fits permitted =
+    sound_from_nothing ws (all_weaker IsWellFormed IsOrderly (λ w h. h.orderly) ws (all_standing IsWellFormed ws prepared fits)) (permitted_standing ws prepared [] permitted)
+
+pub store_bounded : (ws prepared : List Write) (limit : ℕ) → ArePermitted (ws ++ prepared) [] → length_of (ws ++ prepared) ≤ limit → limit ≤ 4294967295 → AllByRecursion IsBounded (after ws [])
+store_bounded ws prepared limit permitted within small = all_weaker (IsWithin (length ws)) IsBounded each (after ws []) (within_after ws (permitted_standing ws prepared [] permitted))
+  where
+    few : length ws ≤ 900000000
+    few = omega (arith, few_standing ws prepared, within, small)
+
+    each : (r : Repo) → IsWithin (length ws) r → IsBounded r
+    each r h = record {
+      revision = omega (arith, h.revision, few);
+      numbers = all_weaker (λ (q : Request). q.number ≤ length ws) (λ (q : Request). q.number < 2147483648) (λ q le. omega (arith, le, few)) r.requests h.numbers;
+    }
 
 module _ (held : Held) (past : Past) (h : HoldsWrites held past) where
   pub held_well_formed : AllByRecursion IsWellFormed (writes_in held.entries ++ writes_in held.prepared)

@@ -4,13 +4,14 @@ ghost use Rattle.rnv_base.specs.Causes.{FaultsBy};
 ghost use Rattle.rnv_disk.specs.Stops.{Past};
 ghost use Rattle.rnv_forge.specs.declared.refusal.Refusal.{Refusal as Cause};
 ghost use Rattle.rnv_forge.specs.declared.write.Write.{Write as Change};
-ghost use Rattle.rnv_forge.specs.Store.{ArePermitted, after, known};
+ghost use Rattle.rnv_forge.specs.Bounded.{IsBounded};
+ghost use Rattle.rnv_forge.specs.Store.{ArePermitted, IsSoundStore, after, known};
 ghost use Rattle.rnv_forge.specs.WellFormed.{IsOrderly, IsWellFormed};
-ghost use Rattle.rnv_journal.specs.Readings.{IsAtRest};
+ghost use Rattle.rnv_journal.specs.Readings.{IsAtRest, KeepsOne};
 ghost use Rattle.rnv_payload.specs.Spelling.{spelling};
 ghost use Rattle.rnv_store.specs.declared.forge.ForgePrepareError.TheVariants.{Full, Refused};
 ghost use Rattle.rnv_store.specs.declared.forge.WriteError.TheVariants.{Closed as write_closed, DiskFault};
-ghost use Rattle.rnv_store.specs.Forge.{IsOldOrNext, IsOverfull, LeavesWrites};
+ghost use Rattle.rnv_store.specs.Forge.{IsOldOrNext, IsOverfull, IsSamePast, LeavesWrites};
 ghost use Rattle.rnv_store.specs.Refused.{IsFirstRefused};
 ghost use Rattle.rnv_store.specs.Writes.{length_of};
 
@@ -89,12 +90,14 @@ pub trait Forge {
     /// prepared before, and the room for them, so that `write_next` takes no memory. `Closed` exactly
     /// after a fault of the disk in a `write_next`; then `Refused` exactly for the first write that is
     /// not permitted after those before it; then `Full` exactly where the journal would be longer
-    /// than its limit; `Memory`. After a refusal nothing is prepared.
+    /// than its limit; `Memory`. After a refusal nothing is prepared. Nothing else of the forge changes,
+    /// nor what a stop may have left.
     fn prepare(&mut self, alloc: Global, list: List<Write>) -> Result<(), ForgePrepareError>
         requires holds { holds self.old }
         requires orderly { AllByRecursion IsOrderly list }
         ensures holds { holds self.new }
         ensures any_moment { closed self.old ≡ false → LeavesWrites (limit self.old) (past self.old) (past self.new) (λ ws. ws ≡ writes self.old) }
+        ensures past { IsSamePast (past self.old) (past self.new) }
         ensures ok { OnOk result (prepared self.new ≡ list) }
         ensures err { OnErr result (prepared self.new ≡ []) }
         ensures writes { writes self.new ≡ writes self.old }
@@ -116,6 +119,8 @@ pub trait Forge {
         requires prepared { prepared self.old ≢ [] }
         ensures holds { holds self.new }
         ensures any_moment { closed self.old ≡ false → LeavesWrites (limit self.old) (past self.old) (past self.new) (IsOldOrNext (writes self.old) (prepared self.old)) }
+        // File `One` is left alone.
+        ensures other { KeepsOne (past self.old) (past self.new) }
         ensures ok { OnOk result (writes self.new ≡ writes self.old ++ take 1 (prepared self.old)) }
         ensures next { OnOk result (prepared self.new ≡ drop 1 (prepared self.old)) }
         ensures err { OnErr result (writes self.new ≡ writes self.old) }
@@ -135,6 +140,15 @@ pub trait Forge {
 
     /// They are within the limit.
     ghost within: { (f : Self) → holds f → length_of (writes f ++ prepared f) ≤ limit f };
+
+    /// Its limit is at most 4294967295.
+    ghost small: { (f : Self) → holds f → limit f ≤ 4294967295 };
+
+    /// The repositories that the writes make are sound.
+    ghost sound: { (f : Self) → holds f → IsSoundStore (after (writes f) []) };
+
+    /// Their revisions are below 4294967295, and the numbers of their requests below 2147483648.
+    ghost bounded: { (f : Self) → holds f → AllByRecursion IsBounded (after (writes f) []) };
 
     /// Unless it is closed, a stop leaves the writes that stand.
     ghost at_rest: { (f : Self) → holds f → closed f ≡ false → IsAtRest (limit f) (past f) (map spelling (writes f)) };

@@ -5,17 +5,19 @@ ghost use Rattle.rnv_base.specs.Turns.{IsListed, first_turn, next_turn};
 ghost use Rattle.rnv_forge.specs.declared.refusal.Refusal.{Refusal as Cause};
 ghost use Rattle.rnv_forge.specs.Store.{ArePermitted, after};
 ghost use Rattle.rnv_forge.specs.WellFormed.{IsOrderly, IsWellFormed};
+ghost use Rattle.rnv_journal.specs.Readings.{KeepsOne};
 ghost use Rattle.rnv_payload.specs.Spelling.{spelling};
 ghost use Rattle.rnv_store.specs.declared.forge.ForgePrepareError.TheVariants.{Full, Refused as PrepareRefused};
 ghost use Rattle.rnv_store.specs.declared.forge.WriteError.TheVariants.{Closed as write_closed, DiskFault};
 ghost use Rattle.rnv_store.specs.declared.stored.CheckError.TheVariants.{Refused};
 ghost use Rattle.rnv_store.specs.Forge.{IsOldOrNext, IsOverfull, LeavesWrites};
 ghost use Rattle.rnv_store.specs.InMemory.{HoldsInMemory, in_memory_permitted, in_memory_well_formed, in_memory_within, no_past, nothing_at_rest};
+ghost use Rattle.rnv_store.specs.Laws.{store_bounded, store_sound};
 ghost use Rattle.rnv_store.specs.Refused.{IsFirstRefused};
 ghost use Rattle.rnv_store.specs.Writes.{length_of};
 
 use crate::store::Store;
-use crate::stored::{CheckError, checked, names_of};
+use crate::stored::{CheckError, checked};
 use crate::{Forge, ForgePrepareError, WriteError};
 use rnv_base::{Failing, List, Text};
 use rnv_forge::{ApplyError, Repo, Write};
@@ -85,12 +87,17 @@ impl Forge for MemForge {
 
     ghost within = { λ f h. in_memory_within f.all.items f.done f.limit h };
 
+    ghost small = { λ f h. h.small };
+
+    ghost sound = { λ f h. store_sound (take f.done f.all.items) (drop f.done f.all.items) (in_memory_well_formed f.all.items f.done f.limit h) (in_memory_permitted f.all.items f.done f.limit h) };
+
+    ghost bounded = { λ f h. store_bounded (take f.done f.all.items) (drop f.done f.all.items) f.limit (in_memory_permitted f.all.items f.done f.limit h) (in_memory_within f.all.items f.done f.limit h) h.small };
+
     ghost at_rest = { λ f h opened. nothing_at_rest f.limit (map spelling (take f.done f.all.items)) };
 
     fn names(&self, alloc: Global) -> Result<List<Text>, AllocError> {
         let store = store_of(alloc, &self.all[..self.done])?;
-        let repos = store.into_repos(alloc)?;
-        names_of(alloc, repos.as_slice())
+        store.names(alloc)
     }
 
     fn repo(&self, alloc: Global, name: &Text) -> Result<Option<Repo>, AllocError> {
@@ -117,6 +124,7 @@ impl Forge for MemForge {
         requires prepared { drop self.old.done self.old.all.items ≢ [] }
         ensures holds { HoldsInMemory self.new.all.items self.new.done self.new.limit }
         ensures any_moment { self.old.closed ≡ false → LeavesWrites self.old.limit no_past no_past (IsOldOrNext (take self.old.done self.old.all.items) (drop self.old.done self.old.all.items)) }
+        ensures other { KeepsOne no_past no_past }
         ensures ok { OnOk result (take self.new.done self.new.all.items ≡ take self.old.done self.old.all.items ++ take 1 (drop self.old.done self.old.all.items)) }
         ensures next { OnOk result (drop self.new.done self.new.all.items ≡ drop 1 (drop self.old.done self.old.all.items)) }
         ensures err { OnErr result (take self.new.done self.new.all.items ≡ take self.old.done self.old.all.items) }

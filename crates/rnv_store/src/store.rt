@@ -1,11 +1,12 @@
-ghost use Rattle.std.specs.Prelude.{◌≡◌, ◌<◌, [], IfOk, IsErrOf, OnOk};
+ghost use Rattle.std.specs.Prelude.{◌≡◌, ◌<◌, [], map, option_copied, IfOk, IsErrOf, OnOk};
 ghost use Rattle.std.specs.List.{AllByRecursion};
+ghost use Rattle.std.specs.Map.{values_of};
 ghost use Rattle.rnv_forge.specs.declared.applying.ApplyError.TheVariants.{Refused};
 ghost use Rattle.rnv_forge.specs.declared.refusal.Refusal.{Refusal as Cause};
 ghost use Rattle.rnv_forge.specs.Store.{IsPermitted, IsSoundStore, applied, known, refusal};
 ghost use Rattle.rnv_forge.specs.WellFormed.{IsOrderly};
 
-use rnv_base::{Share, Text};
+use rnv_base::{List, Share, Text};
 use rnv_forge::{ApplyError, Indexed, Repo, Write, repo_of};
 use std::alloc::{AllocError, Global};
 use std::collections::BTreeMap;
@@ -40,12 +41,19 @@ impl Store {
         }
     }
 
-    // The repositories, by name.
-    pub(crate) fn into_repos(self, alloc: Global) -> Result<Vec<Indexed>, AllocError>
-        ensures { IfOk result (λ repos. repos.items ≡ self) }
+    // The names of the repositories, in order.
+    pub(crate) fn names(&self, alloc: Global) -> Result<List<Text>, AllocError>
+        ensures { IfOk result (λ names. names ≡ map (λ repo. repo.name) self.now) }
     {
-        let Store { repos } = self;
-        repos.into_values().collect(alloc)
+        names_of(alloc, &self.repos)
+    }
+
+    // A copy of the repository of a name.
+    pub(crate) fn repo(&self, alloc: Global, name: &Text) -> Result<Option<Repo>, AllocError>
+        ensures { IfOk result (λ repo. repo ≡ known name.now self.now) }
+    {
+        let repo = copied(alloc, self.repos.get(name))?;
+        Ok(repo)
     }
 
     // Takes the repository of a name out.
@@ -74,6 +82,27 @@ impl Store {
             Err(error) => Err(error),
         }
     }
+}
+
+// A copy of the repository that was found.
+fn copied(alloc: Global, found: Option<&Indexed>) -> Result<Option<Repo>, AllocError>
+    ensures { IfOk result (λ copy. copy ≡ option_copied found.entry) }
+{
+    match found {
+        Some(repo) => Ok(Some(repo.repo().share(alloc)?)),
+        None => Ok(None),
+    }
+}
+
+// The names of repositories, in the order of the map.
+fn names_of(alloc: Global, repos: &BTreeMap<Text, Indexed>) -> Result<List<Text>, AllocError>
+    ensures { IfOk result (λ names. names ≡ map (λ repo. repo.name) (values_of repos.now.entries)) }
+{
+    let mut names = List::empty(alloc);
+    for repo in repos.values() {
+        names.push(repo.name().share(alloc)?)?;
+    }
+    Ok(names)
 }
 
 // The repository without its index.

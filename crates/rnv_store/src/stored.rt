@@ -1,4 +1,4 @@
-ghost use Rattle.std.specs.Prelude.{◌≡◌, ◌<◌, ◌≤◌, ◌+◌, ℕ, [], length, map, IfOk, IsErrOf, OnOk, Some};
+ghost use Rattle.std.specs.Prelude.{◌≡◌, ◌<◌, ◌≤◌, ◌+◌, ℕ, [], length, IfOk, IsErrOf, OnOk, Some};
 ghost use Rattle.std.specs.List.{AllByRecursion};
 ghost use Rattle.rnv_forge.specs.declared.refusal.Refusal.{Refusal as Cause};
 ghost use Rattle.rnv_forge.specs.Store.{ArePermitted, IsSoundStore, after};
@@ -14,8 +14,8 @@ ghost use Rattle.rnv_store.specs.Writes.{AreWrites, IsAdded, IsDamaged, IsSpelle
 
 use crate::store::Store;
 use crate::texts::has_texts;
-use rnv_base::{Bytes, List, Share, Text};
-use rnv_forge::{ApplyError, Indexed, Refusal, Write};
+use rnv_base::{Bytes, List};
+use rnv_forge::{ApplyError, Refusal, Write};
 use rnv_payload::{read_write, spell};
 use std::alloc::{AllocError, Global};
 use std::convert::AsSlice;
@@ -72,17 +72,6 @@ pub(crate) fn stored(alloc: Global, entries: &[Bytes]) -> Result<Store, StoredEr
     Ok(store)
 }
 
-// The names of repositories.
-pub(crate) fn names_of(alloc: Global, repos: &[Indexed]) -> Result<List<Text>, AllocError>
-    ensures { IfOk result (λ names. names ≡ map (λ repo. repo.name) repos.now) }
-{
-    let mut names = List::empty(alloc);
-    for repo in repos {
-        names.push(repo.name().share(alloc)?)?;
-    }
-    Ok(names)
-}
-
 // The byte string that spells an orderly write.
 fn payload_of(alloc: Global, write: &Write) -> Result<Bytes, AllocError>
     requires { IsOrderly write.now }
@@ -103,18 +92,22 @@ pub(crate) enum CheckError {
     Refused { index: usize, cause: Refusal },
 }
 
-// The byte strings that spell orderly writes, which are permitted in their turn in this store.
-pub(crate) fn checked(
-    alloc: Global,
-    mut store: Store,
-    list: &[Write],
-) -> Result<List<Bytes>, CheckError>
+// The store behind some writes, and the byte strings that spell them.
+#[derive(Drop)]
+pub(crate) struct Tried {
+    pub(crate) store: Store,
+    pub(crate) payloads: List<Bytes>,
+}
+
+// What orderly writes make of this store, in which they are permitted in their turn, and the byte strings that spell them.
+pub(crate) fn checked(alloc: Global, mut store: Store, list: &[Write]) -> Result<Tried, CheckError>
     requires sound { IsSoundStore store }
     requires few { length list.now < 4294967295 }
     requires revisions { AllByRecursion (λ repo. repo.revision + length list.now < 4294967295) store }
     requires orderly { AllByRecursion IsOrderly list.now }
-    ensures spelled { IfOk result (λ payloads. IsSpelledBy (strings payloads) list.now) }
-    ensures read { IfOk result (λ payloads. writes_in (strings payloads) ≡ list.now) }
+    ensures spelled { IfOk result (λ made. IsSpelledBy (strings made.payloads) list.now) }
+    ensures read { IfOk result (λ made. writes_in (strings made.payloads) ≡ list.now) }
+    ensures store { IfOk result (λ made. made.store ≡ after list.now store) }
     ensures permitted { OnOk result (ArePermitted list.now store) }
     ensures refused { (index : ℕ) (cause : Cause) → IsErrOf result (Refused index cause) → IsFirstRefused list.now store index cause }
 {
@@ -133,5 +126,5 @@ pub(crate) fn checked(
             Err(_) => return Err(CheckError::Memory),
         }
     }
-    Ok(payloads)
+    Ok(Tried { store, payloads })
 }

@@ -1,11 +1,14 @@
-use Rattle.std.proofs.Common.{◌∷◌, []}
+use Rattle.std.proofs.Common.{◌≤◌, List, ◌∷◌, [], subst, sym, arith}
 use Rattle.std.proofs.lemmas.Bool.{iff_false}
 use Rattle.rnv_forge.specs.declared.write.Write.TheVariants.{SetBase}
 use Rattle.rnv_store.specs.Forge.{IsOldOrNext}
+use Rattle.rnv_forge.specs.declared.write.Write.{Write}
+use Rattle.rnv_store.specs.Writes.{length_of}
 use Rattle.rnv_store.proofs.Uses.{leaves_weaker}
 use Rattle.rnv_commands.specs.Import.{IsOldOrImport}
-use Rattle.rnv_commands.proofs.Imports.{none_of, old_or_import, prints_new, prints_same, ready_permitted, some_of, write_refused}
+use Rattle.rnv_commands.proofs.Imports.{front_length, none_of, old_or_import, prints_new, prints_same, ready_permitted, some_of, write_refused}
 use Rattle.rnv_commands.proofs.Stops.{still, still_import}
+use Rattle.rnv_journal.proofs.Ones.{one_self}
 use Rattle.rnv_commands.proofs.import.import_base.Goals as goal
 
 pub returns-then-is_empty-clause-any_moment : goal.returns-then-is_empty-clause-any_moment
@@ -50,3 +53,18 @@ pub returns-in-Err-clause-unwritten : goal.returns-in-Err-clause-unwritten
 returns-in-Err-clause-unwritten g c = λ ne.
     let forge = c.args.forge.now in
     still (g.F.Forge.limit forge) (g.F.Forge.past forge) (g.F.Forge.writes forge) (g.F.Forge.prepared forge) (g.met.F.Forge.well_formed forge c.requires.holds) (g.met.F.Forge.at_rest forge c.requires.holds c.requires.opened)
+
+pub returns-then-is_empty-clause-other : goal.returns-then-is_empty-clause-other
+returns-then-is_empty-clause-other g c = one_self (g.F.Forge.past c.args.forge.now)
+
+pub returns-in-Err-clause-other : goal.returns-in-Err-clause-other
+returns-in-Err-clause-other g c = one_self (g.F.Forge.past c.args.forge.now)
+
+pub returns-then-is_empty-clause-room : goal.returns-then-is_empty-clause-room
+returns-then-is_empty-clause-room g c =
+    let forge = c.args.forge.now in
+    omega (arith, front_length (g.F.Forge.writes forge) (g.F.Forge.prepared forge), g.met.F.Forge.within forge c.requires.holds)
+
+pub returns-in-Ok-write_base-clause-room : goal.returns-in-Ok-write_base-clause-room
+returns-in-Ok-write_base-clause-room g c =
+    subst (λ (l : List Write). length_of l ≤ g.F.Forge.limit c.args.forge.now) (sym c.in-Ok-write_base.ensures.ok) c.in-Ok-write_base.ensures.room

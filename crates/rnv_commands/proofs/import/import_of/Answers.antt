@@ -10,10 +10,10 @@ pub import_into-requires-clause-files : goal.import_into-requires-clause-files
 import_into-requires-clause-files g c =
     let forge = c.args.forge.now in
     subst (λ (r : Option Repo). AreInOrder path_of (files_of r)) (sym c.in_ok-repo.ensures)
-    (files_in_order c.args.name.now (g.F.Forge.writes forge) (g.F.Forge.prepared forge) (g.met.F.Forge.well_formed forge c.requires.holds) (g.met.F.Forge.permitted forge c.requires.holds))
+    (files_in_order c.args.name.now (g.F.Forge.writes forge) (g.met.F.Forge.sound forge c.requires.holds))
 
 pub import_into-requires-clause-small : goal.import_into-requires-clause-small
 import_into-requires-clause-small g c =
     let forge = c.args.forge.now in
     subst (λ (r : Option Repo). revision_of r < 4294967295) (sym c.in_ok-repo.ensures)
-    (revision_small c.args.name.now (g.F.Forge.writes forge) (g.F.Forge.prepared forge) (g.F.Forge.limit forge) (g.met.F.Forge.within forge c.requires.holds) c.requires.small)
+    (revision_small c.args.name.now (g.F.Forge.writes forge) (g.met.F.Forge.bounded forge c.requires.holds))

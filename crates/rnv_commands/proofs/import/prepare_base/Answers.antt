@@ -1,10 +1,12 @@
-use Rattle.std.proofs.Common.{List, [], Err, ap, subst}
+use Rattle.std.proofs.Common.{◌≤◌, ◌++◌, List, [], Err, ap, subst}
 use Rattle.rnv_forge.specs.Store.{after}
 use Rattle.rnv_forge.specs.declared.write.Write.{Write}
 use Rattle.rnv_forge.specs.declared.write.Write.TheVariants.{SetBase}
+use Rattle.rnv_store.specs.Writes.{length_of}
 use Rattle.rnv_store.specs.Refused.{IsFirstRefused}
 use Rattle.rnv_commands.proofs.Imports.{not_refused}
 use Rattle.rnv_commands.proofs.Stops.{still}
+use Rattle.rnv_store.proofs.Uses.{same_past}
 use Rattle.rnv_commands.proofs.import.prepare_base.Goals as goal
 
 pub returns-in_err-list-clause-any_moment : goal.returns-in_err-list-clause-any_moment
@@ -19,3 +21,11 @@ unreachable-requires-in-Err-Refused g c =
     let cause = c.in-Err-Refused.field-0-1 in
     let first = c.in-Err-Refused.ensures.refused index cause (ap Err c.in-Err-Refused.field-0-is) in
     not_refused (SetBase c.args.name.now c.args.changes) store index cause c.requires.permitted (subst (λ (l : List Write). IsFirstRefused l store index cause) c.in_ok-list.ensures first)
+
+pub returns-in-Ok-clause-within : goal.returns-in-Ok-clause-within
+returns-in-Ok-clause-within g c =
+    let forge = c.args.forge.now in
+    subst (λ (l : List Write). length_of (g.F.Forge.writes forge ++ l) ≤ g.F.Forge.limit forge) c.in_ok-list.ensures c.in-Ok.ensures.within
+
+pub returns-in_err-list-clause-past : goal.returns-in_err-list-clause-past
+returns-in_err-list-clause-past g c = same_past (g.F.Forge.past c.args.forge.now)

@@ -1,6 +1,7 @@
 use Rattle.rnv_commands.proofs.Printed.{if_err}
-use Rattle.rnv_commands.proofs.Refusals.{if_done, not_imported, start_cause, start_folder, start_not_imported, folder_still}
+use Rattle.rnv_commands.proofs.Refusals.{if_done, import_left, not_imported, start_cause, start_folder, start_left, start_not_imported, folder_still}
 use Rattle.rnv_commands.proofs.Stops.{keeps_still, or_import, read_on_entry, reads_or_import, stored_of}
+use Rattle.rnv_journal.proofs.Ones.{one_then}
 use Rattle.rnv_commands.proofs.on_disk.import_on.Goals as goal
 
 pub returns-in-Ok-clause-any_moment : goal.returns-in-Ok-clause-any_moment
@@ -38,3 +39,18 @@ returns-in-Err-clause-disk_cause g c = start_cause _ _ c.in-Err.field-0.error c.
 
 pub returns-in-Err-clause-folder_cause : goal.returns-in-Err-clause-folder_cause
 returns-in-Err-clause-folder_cause g c = folder_still _ c.not_started.result (start_folder c.in-Err.field-0.error c.not_started.result c.not_started.ensures)
+
+pub returns-in-Ok-clause-other : goal.returns-in-Ok-clause-other
+returns-in-Ok-clause-other g c = one_then _ _ _ c.in-Ok.ensures.other c.import_started.ensures.other
+
+pub returns-in-Ok-clause-left : goal.returns-in-Ok-clause-left
+returns-in-Ok-clause-left g c = λ t. if_err c.import_started.result.text _ _ (λ error refused. import_left _ _ _ _ _ _ _ _ _ _ error refused) c.import_started.ensures.refused
+
+pub returns-in-Err-clause-left : goal.returns-in-Err-clause-left
+returns-in-Err-clause-left g c = λ t. start_left _ _ _ _ _ c.in-Err.field-0.error c.not_started.result c.not_started.ensures (c.in-Err.ensures.left t)
+
+pub returns-in-Err-clause-unwritten : goal.returns-in-Err-clause-unwritten
+returns-in-Err-clause-unwritten g c = λ ne. c.in-Err.ensures.any_moment_refused
+
+pub returns-in-Err-clause-other : goal.returns-in-Err-clause-other
+returns-in-Err-clause-other g c = c.in-Err.ensures.other_refused

@@ -2,9 +2,9 @@ use Rattle.rnv_journal.specs.Found.{strings}
 use Rattle.rnv_store.proofs.Preparing.{is_overfull, permitted_of, too_long_of}
 use Rattle.rnv_store.proofs.journal_forge.prepare_writes.Goals as goal
 
-pub returns-in-Ok-payloads_of-clause-full : goal.returns-in-Ok-payloads_of-clause-full
-returns-in-Ok-payloads_of-clause-full c n most e =
+pub returns-in-Ok-checked_after-clause-full : goal.returns-in-Ok-checked_after-clause-full
+returns-in-Ok-checked_after-clause-full c n most e =
     let held = c.args.journal.now in
-    is_overfull held (strings c.in-Ok-payloads_of.payloads) c.args.list.now n most c.requires.writes c.in-Ok-payloads_of.ensures.spelled
-    (permitted_of held c.prepare.new.self _ c.args.list.now c.in-Ok.ensures.ok c.in-Ok-payloads_of.ensures.permitted)
-    (too_long_of held c.prepare.new.self (strings c.in-Ok-payloads_of.payloads) _ n most c.in-Ok.ensures.ok (c.prepare_payloads.ensures.full n most e))
+    is_overfull held (strings c.in-Ok-checked_after.field-0.payloads) c.args.list n most c.requires.writes c.in-Ok-checked_after.ensures.spelled
+    (permitted_of held c.prepare.new.self _ c.args.list c.in-Ok.ensures.ok c.in-Ok-checked_after.ensures.permitted)
+    (too_long_of held c.prepare.new.self (strings c.in-Ok-checked_after.field-0.payloads) _ n most c.in-Ok.ensures.ok (c.prepare_payloads.ensures.full n most e))
