@@ -22,15 +22,37 @@ The status is 0 where all was done and printed. Else it is the number in the pri
 `error NUMBER: TEXT`, and what the system said stands on standard error.
 ";
 
-/// What words that ask for no command are answered with, in pieces: the help for `--help`, `-h` and
-/// `help`, the program's name and version for `--version` and `-V`. None for all other words.
-pub fn answer(words: &List<Text>) -> Option<[&'static str; 2]> {
-    match words.as_slice() {
-        [word] => match word.as_str() {
-            "--help" | "-h" | "help" => Some([USAGE, MORE]),
-            "--version" | "-V" => Some(["renovate 0.1.0\n", ""]),
+// The program's name and version, as a line.
+const VERSION: &str = "renovate 0.1.0\n";
+
+/// What words ask for that name no command.
+#[derive(Clone, Copy, Debug, PartialEq, Eq)]
+pub enum Answer {
+    /// The help.
+    Help,
+    /// The program's name and version.
+    Version,
+}
+
+impl Answer {
+    /// What these words ask for: the help for `--help`, `-h` and `help`, the version for `--version` and
+    /// `-V`. None for all other words.
+    pub fn to(words: &List<Text>) -> Option<Answer> {
+        match words.as_slice() {
+            [word] => match word.as_str() {
+                "--help" | "-h" | "help" => Some(Answer::Help),
+                "--version" | "-V" => Some(Answer::Version),
+                _ => None,
+            },
             _ => None,
-        },
-        _ => None,
+        }
+    }
+
+    /// Its text, in two pieces.
+    pub fn text(self) -> (&'static str, &'static str) {
+        match self {
+            Answer::Help => (USAGE, MORE),
+            Answer::Version => (VERSION, ""),
+        }
     }
 }

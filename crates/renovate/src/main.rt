@@ -12,7 +12,7 @@ mod stream_sink;
 mod tests;
 mod walk;
 
-use help::{USAGE, answer};
+use help::{Answer, USAGE};
 use here_disk::HereDisk;
 use here_folder::HereFolder;
 use notes::{Progress, clear_progress};
@@ -28,8 +28,8 @@ use stream_sink::StreamSink;
 fn main(rt: HostRuntime) -> io::Result<ExitCode> {
     let words = words(&rt)?;
     let mut out = StreamSink::new(rt.clone()?, rt.stdout(), "standard output");
-    if let Some(pieces) = answer(&words) {
-        return Ok(ExitCode::from(print(&mut out, pieces)));
+    if let Some(answer) = Answer::to(&words) {
+        return Ok(ExitCode::from(print(&mut out, answer)));
     }
     let is_shown = rt.stderr().is_terminal();
     let outside = Outside {
@@ -45,9 +45,10 @@ fn main(rt: HostRuntime) -> io::Result<ExitCode> {
     Ok(ExitCode::from(ended.status.code))
 }
 
-// Writes the pieces, and gives the status: that of a failed write where the output took not all.
-fn print<K: Sink>(out: &mut K, pieces: [&str; 2]) -> u8 {
-    for piece in pieces {
+// Writes the answer, and gives the status: that of a failed write where the output took not all.
+fn print<K: Sink>(out: &mut K, answer: Answer) -> u8 {
+    let (first, second) = answer.text();
+    for piece in [first, second] {
         if write_all(out, piece.as_bytes()).is_err() {
             return 10;
         }
