@@ -1,5 +1,7 @@
+use crate::repo::shared_page;
 use crate::{Branch, FileChange, Key};
-use rnv_base::{List, Text};
+use rnv_base::{List, Share, Text};
+use std::alloc::{AllocError, Global};
 
 /// A write: it changes one thing of the repository with the name `repo`.
 #[derive(Debug, Drop)]
@@ -49,4 +51,65 @@ pub enum Write {
         repo: Text,
         page: Option<Text>,
     },
+}
+
+impl Share for Write {
+    fn share(&self, alloc: Global) -> Result<Write, AllocError> {
+        match self {
+            Write::SetBase { repo, changes } => Ok(Write::SetBase {
+                repo: repo.share(alloc)?,
+                changes: changes.share(alloc)?,
+            }),
+            Write::PutBranch { repo, branch } => Ok(Write::PutBranch {
+                repo: repo.share(alloc)?,
+                branch: branch.share(alloc)?,
+            }),
+            Write::DropBranch { repo, name } => Ok(Write::DropBranch {
+                repo: repo.share(alloc)?,
+                name: name.share(alloc)?,
+            }),
+            Write::OpenRequest {
+                repo,
+                number,
+                branch,
+                updates,
+                title,
+                body,
+                labels,
+                made_at,
+            } => Ok(Write::OpenRequest {
+                repo: repo.share(alloc)?,
+                number: *number,
+                branch: branch.share(alloc)?,
+                updates: updates.share(alloc)?,
+                title: title.share(alloc)?,
+                body: body.share(alloc)?,
+                labels: labels.share(alloc)?,
+                made_at: *made_at,
+            }),
+            Write::EditRequest {
+                repo,
+                number,
+                updates,
+                title,
+                body,
+                labels,
+            } => Ok(Write::EditRequest {
+                repo: repo.share(alloc)?,
+                number: *number,
+                updates: updates.share(alloc)?,
+                title: title.share(alloc)?,
+                body: body.share(alloc)?,
+                labels: labels.share(alloc)?,
+            }),
+            Write::Autoclose { repo, number } => Ok(Write::Autoclose {
+                repo: repo.share(alloc)?,
+                number: *number,
+            }),
+            Write::Finish { repo, page } => Ok(Write::Finish {
+                repo: repo.share(alloc)?,
+                page: shared_page(alloc, page)?,
+            }),
+        }
+    }
 }
