@@ -10,6 +10,7 @@ use Rattle.std.specs.declared.cmp.Ordering.TheVariants.{Less, Equal, Greater}
 use Rattle.std.proofs.lemmas.Bool.{both_ways, eqb-true, false_from_ne_true}
 use Rattle.std.proofs.lemmas.Cmp.{nat_list_cmp_total}
 use Rattle.std.proofs.lemmas.List.Elements.{All-from_recursion, All-nil, recursion_from_All}
+use Rattle.rnv_base.specs.Moment.{IsMoment}
 use Rattle.rnv_base.specs.Names.{IsPath, IsRepositoryName}
 use Rattle.rnv_forge.specs.Applying.{Applies}
 use Rattle.rnv_forge.specs.declared.applying.ApplyError.{ApplyError}
@@ -113,6 +114,7 @@ sound_base revision cs repo le order s = record {
   branches = s.branches;
   branch_files = s.branch_files;
   requests = s.requests;
+  moments = s.moments;
   based = s.based;
   deliveries = s.deliveries;
 }
@@ -242,6 +244,10 @@ next_of number rs e =
 
 -- each kind
 
+-- a request was made at a moment
+abbrev IsMade : Request → Type 0
+IsMade r = IsMoment r.made_at
+
 pub sound_applied : (w : Write) (repo : Repo) → HasOrder w → refusal_in w repo ≡ None → IsSound repo → IsSound (applied_in w repo)
 sound_applied (SetBase name changes) repo order e s = sound_base (repo.revision + 1) changes repo (omega arith) order s
 sound_applied (PutBranch name branch) repo order e s = record {
@@ -251,6 +257,7 @@ sound_applied (PutBranch name branch) repo order e s = record {
   branches = rising_put name_of branch repo.branches s.branches;
   branch_files = all_put (λ b. AreInOrder (λ f. f.path) b.files) name_of branch repo.branches order s.branch_files;
   requests = s.requests;
+  moments = s.moments;
   based = all_weaker (IsBased repo.branches) _ (λ r h live. found_put name_of r.branch branch repo.branches (h live)) repo.requests s.based;
   deliveries = s.deliveries;
 }
@@ -262,6 +269,7 @@ sound_applied (DropBranch name branch) repo order e s =
       branches = rising_filter name_of (λ b. not (bytes_eq (name_of b) branch)) repo.branches s.branches;
       branch_files = all_filter (λ b. AreInOrder (λ f. f.path) b.files) (λ b. not (bytes_eq (name_of b) branch)) repo.branches s.branch_files;
       requests = s.requests;
+      moments = s.moments;
       based = all_both (IsBased repo.branches) (λ r. is_live_on branch r ≡ false) _
           (λ r h other live. found_without name_of r.branch branch repo.branches (let k : bytes_eq r.branch branch ≡ false = rw live at other in k) (h live))
           repo.requests s.based (none_live branch repo.requests f.free);
@@ -276,6 +284,7 @@ sound_applied (OpenRequest name number branch updates title body labels made_at)
       branches = s.branches;
       branch_files = s.branch_files;
       requests = apart_new repo.requests r (next_of number repo.requests f.rest) f.free s.requests;
+      moments = all_append IsMade repo.requests r s.moments order;
       based = all_append (IsBased repo.branches) repo.requests r s.based (λ live. f.there);
       deliveries = s.deliveries;
     }
@@ -286,6 +295,7 @@ sound_applied (EditRequest name number updates title body labels) repo order e s
   branches = s.branches;
   branch_files = s.branch_files;
   requests = apart_at_number number (edited updates title body labels) (λ r q h. record { rises = h.rises; one_live = h.one_live }) (λ r q h. record { rises = h.rises; one_live = h.one_live }) repo.requests s.requests;
+  moments = all_at_number IsMade number (edited updates title body labels) (λ q h. h) repo.requests s.moments;
   based = all_at_number (IsBased repo.branches) number (edited updates title body labels) (λ q h. h) repo.requests s.based;
   deliveries = s.deliveries;
 }
@@ -296,6 +306,7 @@ sound_applied (Autoclose name number) repo order e s = record {
   branches = s.branches;
   branch_files = s.branch_files;
   requests = apart_at_number number autoclosed (λ r q h. record { rises = h.rises; one_live = λ live. refl }) (λ r q h. record { rises = h.rises; one_live = λ live. absurd cc }) repo.requests s.requests;
+  moments = all_at_number IsMade number autoclosed (λ q h. h) repo.requests s.moments;
   based = all_at_number (IsBased repo.branches) number autoclosed (λ q h live. absurd cc) repo.requests s.based;
   deliveries = s.deliveries;
 }
@@ -306,6 +317,7 @@ sound_applied (Finish name page) repo order e s = record {
   branches = s.branches;
   branch_files = s.branch_files;
   requests = s.requests;
+  moments = s.moments;
   based = s.based;
   deliveries = s.deliveries;
 }
@@ -319,6 +331,7 @@ sound_empty name ok = record {
   branches = tt;
   branch_files = tt;
   requests = tt;
+  moments = tt;
   based = tt;
   deliveries = tt;
 }

@@ -1,6 +1,7 @@
 -- Repositories, what a write makes of them, and which writes are permitted.
 use Rattle.std.specs.Prelude.{◌≡◌, ℕ, ◌+◌, ◌≤◌, nat_eq, Bool, true, false, not, is_some, if◌then◌else◌, List, [], ◌∷◌, ◌++◌, Option, None, Some}
 use Rattle.std.specs.List.{AllByRecursion}
+use Rattle.rnv_base.specs.Moment.{IsMoment}
 use Rattle.rnv_base.specs.Names.{IsRepositoryName}
 use Rattle.rnv_forge.specs.declared.branch.Branch.{Branch}
 use Rattle.rnv_forge.specs.declared.refusal.Refusal.{Refusal}
@@ -139,7 +140,7 @@ ArePermitted [] store = Unit {0}
 ArePermitted (w ∷ ws) store = IsPermitted w store × ArePermitted ws (applied w store)
 
 -- Sound: files, branches, requests and deliveries are in their order, each once; paths are paths; no file is
--- marked above the revision; a live request has its branch, and a branch at most one.
+-- marked above the revision; each request was made at a moment; a live request has its branch, and a branch at most one.
 pub record IsSound (repo : Repo) : Type 0 where
   pub name : IsRepositoryName repo.name
   pub files : AreInOrder (λ f. f.path) repo.files
@@ -147,6 +148,7 @@ pub record IsSound (repo : Repo) : Type 0 where
   pub branches : IsRisingBy name_of repo.branches
   pub branch_files : AllByRecursion (λ b. AreInOrder (λ f. f.path) b.files) repo.branches
   pub requests : AreApart repo.requests
+  pub moments : AllByRecursion (λ r. IsMoment r.made_at) repo.requests
   pub based : AllByRecursion (IsBased repo.branches) repo.requests
   pub deliveries : IsRisingBy (λ d. d.id) repo.deliveries
 

@@ -1,7 +1,8 @@
--- Which values are writes: texts are UTF-8, names are repository names, and paths are paths and rise.
+-- Which values are writes: texts are UTF-8, names are repository names, paths are paths and rise, and moments are moments.
 use Rattle.std.specs.Prelude.{ℕ, List, All, IfSome}
 use Rattle.std.specs.List.{AllByRecursion}
 use Rattle.std.specs.Str.{IsUtf8}
+use Rattle.rnv_base.specs.Moment.{IsMoment}
 use Rattle.rnv_base.specs.Names.{IsPath, IsRepositoryName}
 use Rattle.rnv_forge.specs.declared.branch.Branch.{Branch}
 use Rattle.rnv_forge.specs.declared.branch.Key.{Key}
@@ -23,17 +24,17 @@ pub record AreInOrder {X : Type 0} (path : X → List ℕ) (xs : List X) : Type 
   pub each : All (λ x. IsPath (path x)) xs
   pub rising : IsRisingBy path xs
 
--- the changes of a write, or the files of its branch, have paths that rise
+-- the changes of a write, or the files of its branch, have paths that rise, and a request is opened at a moment
 abbrev pub HasOrder : Write → Type 0
 HasOrder (SetBase repo changes) = AreInOrder (λ c. c.path) changes
 HasOrder (PutBranch repo branch) = AreInOrder (λ f. f.path) branch.files
 HasOrder (DropBranch repo name) = Unit {0}
-HasOrder (OpenRequest repo number branch updates title body labels made_at) = Unit {0}
+HasOrder (OpenRequest repo number branch updates title body labels made_at) = IsMoment made_at
 HasOrder (EditRequest repo number updates title body labels) = Unit {0}
 HasOrder (Autoclose repo number) = Unit {0}
 HasOrder (Finish repo page) = Unit {0}
 
--- a write names a repository, and its paths are paths and rise
+-- a write names a repository, its paths are paths and rise, and its moment is one
 pub record IsOrderly (w : Write) : Type 0 where
   pub name : IsRepositoryName (repo_of w)
   pub order : HasOrder w

@@ -8,6 +8,9 @@ use rnv_base::{Text, name_ok, path_ok};
 use std::cmp::Ordering;
 use std::convert::{AsSlice, AsStr};
 
+/// The last moment, 9998-12-31T23:59:59Z.
+const LAST_MOMENT: u64 = 253_370_764_799;
+
 // What has a path.
 trait HasPath {
     ghost path: { Self → List ℕ };
@@ -72,19 +75,22 @@ pub fn repo_of(write: &Write) -> &Text
     }
 }
 
-// Whether the changes of a write, or the files of its branch, have paths that rise.
+// Whether the changes of a write, or the files of its branch, have paths that rise, and a request is
+// opened at a moment.
 fn has_order(write: &Write) -> bool
     ensures { IsTrue result ↔ HasOrder write.now }
 {
     match write {
         Write::SetBase { changes, .. } => are_in_order(changes.as_slice()),
         Write::PutBranch { branch, .. } => are_in_order(branch.files.as_slice()),
+        Write::OpenRequest { made_at, .. } => *made_at <= LAST_MOMENT,
         _ => true,
     }
 }
 
-/// Whether the write names a repository by a repository name, and its changes, or the files of its
-/// branch, have paths that are paths and rise. Takes no memory.
+/// Whether the write names a repository by a repository name, its changes, or the files of its
+/// branch, have paths that are paths and rise, and the request that it opens is made at a moment, in
+/// seconds since 1970 up to the year 9998. Takes no memory.
 pub fn is_orderly(write: &Write) -> bool
     ensures { IsTrue result ↔ IsOrderly write.now }
 {
