@@ -7,7 +7,7 @@ use Rattle.std.specs.Ordering.{nat_cmp}
 use Rattle.std.specs.Str.{bytes_eq}
 use Rattle.rnv_forge.specs.declared.request.Request.{Request}
 use Rattle.rnv_forge.specs.declared.write.Write.{Write}
-use Rattle.rnv_forge.specs.declared.write.Write.TheVariants.{SetBase, PutBranch, DropBranch, OpenRequest, EditRequest, Autoclose, Finish}
+use Rattle.rnv_forge.specs.declared.write.Write.TheVariants.{DropBranch, OpenRequest, Autoclose}
 use Rattle.rnv_forge.specs.Requests.{is_live, is_live_number, live_on}
 
 -- the number of the live request on a branch
@@ -20,13 +20,9 @@ AreLiveOf rs entries = (branch : List ℕ) → lookup (is_at (slice_cmp nat_cmp 
 
 -- of the branch that a write drops or opens a request on: the number of the live request that is on it
 abbrev pub IsLiveFor : Write → List Request → Option ℕ → Type 0
-IsLiveFor (SetBase repo changes) rs live = Unit {0}
-IsLiveFor (PutBranch repo branch) rs live = Unit {0}
 IsLiveFor (DropBranch repo name) rs live = live ≡ number_on name rs
 IsLiveFor (OpenRequest repo number branch updates title body labels made_at) rs live = live ≡ number_on branch rs
-IsLiveFor (EditRequest repo number updates title body labels) rs live = Unit {0}
-IsLiveFor (Autoclose repo number) rs live = Unit {0}
-IsLiveFor (Finish repo page) rs live = Unit {0}
+IsLiveFor w rs live = Unit {0}
 
 -- the live request of a number, and its place
 pub record IsLiveAt (number : ℕ) (rs : List Request) (r : Request) (k : ℕ) : Type 0 where
@@ -42,22 +38,13 @@ IsBranchOf number rs branch = is_live_number number rs ≡ true → (r : Request
 -- the branch whose live request a write closes, where it is permitted
 abbrev pub IsClosedBy : Write → List Request → Option (List ℕ) → Type 0
 IsClosedBy (Autoclose repo number) rs branch = IsBranchOf number rs branch
-IsClosedBy (SetBase repo changes) rs branch = branch ≡ None
-IsClosedBy (PutBranch repo branch') rs branch = branch ≡ None
-IsClosedBy (DropBranch repo name) rs branch = branch ≡ None
-IsClosedBy (OpenRequest repo number branch' updates title body labels made_at) rs branch = branch ≡ None
-IsClosedBy (EditRequest repo number updates title body labels) rs branch = branch ≡ None
-IsClosedBy (Finish repo page) rs branch = branch ≡ None
+IsClosedBy w rs branch = branch ≡ None
 
 -- the number of the live request on a branch behind a write that opens one, from that before it
 abbrev pub opened_after : Write → List ℕ → Option ℕ → Option ℕ
-opened_after (SetBase repo changes) branch before = before
-opened_after (PutBranch repo branch') branch before = before
-opened_after (DropBranch repo name) branch before = before
-opened_after (OpenRequest repo number opened updates title body labels made_at) branch before = if bytes_eq opened branch then Some number else before
-opened_after (EditRequest repo number updates title body labels) branch before = before
-opened_after (Autoclose repo number) branch before = before
-opened_after (Finish repo page) branch before = before
+opened_after (OpenRequest repo number opened updates title body labels made_at) branch before =
+    if bytes_eq opened branch then Some number else before
+opened_after w branch before = before
 
 -- the same behind a write that closes the one on a branch, where there is such a branch
 abbrev pub live_after : Write → Option (List ℕ) → List ℕ → Option ℕ → Option ℕ
