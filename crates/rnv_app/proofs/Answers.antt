@@ -4,8 +4,11 @@ use Rattle.std.proofs.Common.{◌≡◌, ◌≢◌, ◌⊎◌, inl, inr, ℕ, Li
 use Rattle.rnv_base.specs.Causes.{Rose, FaultsBy}
 use Rattle.rnv_base.specs.Files.{NamedFile}
 use Rattle.rnv_base.specs.Moment.{IsMomentText}
+use Rattle.rnv_disk.specs.Images.{Image}
+use Rattle.rnv_disk.specs.Stops.{Past}
 use Rattle.rnv_journal.specs.Readings.{KeepsReadings}
 use Rattle.rnv_commands.proofs.Stops.{or_import}
+use Rattle.rnv_commands.specs.OnDisk.{IsDamaged}
 use Rattle.rnv_plan.specs.declared.item.Item.{Item}
 use Rattle.rnv_plan.specs.declared.error.RunError.{RunError}
 use Rattle.rnv_plan.specs.declared.error.RunError.TheVariants as run
@@ -21,14 +24,15 @@ use Rattle.rnv_app.specs.declared.end.Refusal.TheVariants.{Memory, Usage, Unknow
 use Rattle.rnv_app.specs.declared.words.Words.{Words}
 use Rattle.rnv_app.specs.declared.words.WordsError.{WordsError}
 use Rattle.rnv_app.specs.declared.words.WordsError.TheVariants.{Usage as words_usage, Memory as words_memory}
-use Rattle.rnv_app.specs.Words.{IsCommand, IsImport, IsPlan, IsRun, IsShow, IsTimed, IsUsage}
+use Rattle.rnv_app.specs.Words.{IsCommand, IsImport, IsOfStore, IsPlan, IsRun, IsShow, IsTimed, IsUsage}
 use Rattle.rnv_app.specs.Text.{plan_text}
 use Rattle.rnv_app.specs.End.{code_of, plan_refusal_of, refusal_of, status_of, IsCause, IsCauseOr, IsTold}
-use Rattle.rnv_app.specs.Top.{refusing, running, HasPlan, HasNoPlan, Imports, IsAnswered, IsForPlan, IsImportEnd, IsFree, IsNamed, IsOfPlan, IsPrinted, IsPrintedInPart, IsRefusedWith, IsRunEnd, IsShowEnd, IsShowing, Sight, Tells}
+use Rattle.rnv_app.specs.Top.{refusing, running, HasPlan, HasNoPlan, Imports, IsAnswered, IsDamagedOr, IsForPlan, IsImportEnd, IsFree, IsNamed, IsOfPlan, IsPrinted, IsPrintedInPart, IsRefusedWith, IsRunEnd, IsShowEnd, IsShowing, LeavesNoStore, Sight, Tells}
 use Rattle.rnv_run.specs.OnDisk.{Runs}
 use Rattle.rnv_run.proofs.Disks.{runs_none}
 use Rattle.rnv_app.proofs.Four.{one-repo, one_time}
 use Rattle.rnv_app.proofs.Ends.{Answer, done_at, part_at, usage_at}
+use Rattle.rnv_app.proofs.Stores.{import_damaged, run_damaged, show_damaged}
 
 pub has_plan : (words : List (List ℕ)) (files : List NamedFile) (text repo : List ℕ) (now : ℕ) (items : List Item) → IsPlan words repo now → IsPlanned repo now files items → ((error : RunError) → ¬ (IsPlanRefusal repo now files error)) → (time : List ℕ) × IsMomentText time now × (text ≡ plan_text time items) → HasPlan words files text
 has_plan words files text repo now items asked planned free printed = record {
@@ -197,6 +201,14 @@ module _ (s : Sight) (words : List (List ℕ)) (text : Answer) (answered : IsAns
       none_then (inl u) = u.1
       none_then (inr m) = absurd (omega (arith, one_refusal text Usage Memory e m.0))
 
+  -- where the words ask for nothing, the disk is left alone
+  usage_alone : text ≡ Err Usage → IsAnswered s words text → s.same_disk
+  usage_alone e (inl p) = p.same
+  usage_alone e (inr (inl i)) = absurd (own_never i.answer Usage tt (sym i.is ∙ e))
+  usage_alone e (inr (inr (inl i))) = absurd (own_never i.answer Usage tt (sym i.is ∙ e))
+  usage_alone e (inr (inr (inr (inl r)))) = absurd (run_never r.answer (sym r.is ∙ e))
+  usage_alone e (inr (inr (inr (inr n)))) = n.same
+
   usage_text : IsUsage words → IsAnswered s words text → text ≡ Err Usage
   usage_text u (inl p) = absurd (u.plan p.repo p.now p.asked)
   usage_text u (inr (inl i)) = absurd (u.import i.repo i.asked)
@@ -214,6 +226,9 @@ module _ (s : Sight) (words : List (List ℕ)) (text : Answer) (answered : IsAns
       λ e. usage_then (usage_at tells before after faults now text code told e) answered,
       λ u. (subst (λ (a : Answer). IsTold tells before after faults now a code) (usage_text u answered) told).status,
     )
+
+    pub usage_same : code ≡ 2 → s.same_disk
+    usage_same e = usage_alone (usage_at tells before after faults now text code told e) answered
 
     -- a status of a cause is none of these
     never : (n : ℕ) → code ≡ n → IsCause code → IsCause n
@@ -421,6 +436,27 @@ pub none_of : (words : List (List ℕ)) (error : WordsError) (refusal : Refusal)
 none_of words words_usage refusal usage memory exactly = inl (ap Err (usage refl), exactly.0 refl)
 none_of words words_memory refusal usage memory exactly = inr (ap Err (memory refl), λ u. absurd (cc (exactly.1 u)))
 
+-- what is left of the disk, where these words or a plan are refused
+module _ (old new : Image) (before now : Past) where
+  pub none_left : (error : WordsError) (refusal : Refusal) → (error ≡ words_usage → refusal ≡ Usage) → (error ≡ words_memory → refusal ≡ Memory) → LeavesNoStore 268435456 old new before now refusal
+  none_left words_usage refusal usage memory = subst (LeavesNoStore 268435456 old new before now) (sym (usage refl)) tt
+  none_left words_memory refusal usage memory = subst (LeavesNoStore 268435456 old new before now) (sym (memory refl)) tt
+
+  of_plan : (refusal : Refusal) → IsOfPlan refusal → LeavesNoStore 268435456 old new before now refusal
+  of_plan Memory plain = tt
+  of_plan Usage plain = tt
+  of_plan UnknownRepo plain = tt
+  of_plan FolderFault plain = tt
+  of_plan DiskFault plain = tt
+  of_plan (NotAJournal offset) plain = absurd plain
+  of_plan (Limit which number) plain = tt
+  of_plan (IndexRefused file line) plain = tt
+  of_plan (NotBuilt path) plain = tt
+
+  pub plan_left : (answer : Answer) → IfErr answer IsOfPlan → IfErr answer (LeavesNoStore 268435456 old new before now)
+  plan_left (Ok text) plain = tt
+  plan_left (Err refusal) plain = of_plan refusal plain
+
 -- the text of a plan, or want of memory
 
 pub tells_of : (words : List (List ℕ)) (files : List NamedFile) (answer : Answer) → IfOk answer (HasPlan words files) → IfErr answer (λ refusal. refusal ≡ Memory) → Tells words files answer
@@ -454,3 +490,14 @@ run_disk_of (Err (of_run.Ended run.UnknownRepo)) is = absurd (cc is)
 run_disk_of (Err (of_run.Ended (run.NotBuilt path))) is = absurd (cc is)
 run_disk_of (Err (of_run.Ended (run.Limit which number))) is = absurd (cc is)
 run_disk_of (Err (of_run.Ended (run.IndexRefused file line))) is = absurd (cc is)
+
+-- ---- a command over the store, whichever it is
+
+pub store_damaged : (s : Sight) (words : List (List ℕ)) (text : Answer) → IsAnswered s words text → (tells : Type 0) (before after : List ℕ) (faults now code : ℕ) → IsTold tells before after faults now text code → s.disk_tells
+    → (repo : List ℕ) → IsOfStore words repo → (offset : ℕ) → IsDamaged 268435456 s.file offset → IsDamagedOr code
+store_damaged s words text answered tells before after faults now code told d repo asked offset damaged = by asked
+  where
+    by : IsOfStore words repo → IsDamagedOr code
+    by (inl r) = run_damaged s repo tells before after faults now code r.0 (run_is s words text answered tells before after faults now code told repo r.0 r.1) d offset damaged
+    by (inr (inl i)) = import_damaged s repo tells before after faults now code (import_is s words text answered tells before after faults now code told repo i) d offset damaged
+    by (inr (inr w)) = show_damaged s repo tells before after faults now code (show_is s words text answered tells before after faults now code told repo w) d offset damaged

@@ -2,15 +2,13 @@
 use Rattle.std.specs.Option.{IfSome}
 use Rattle.std.proofs.Common.{◌≡◌, ◌≢◌, ◌⊎◌, inl, inr, ℕ, List, ◌++◌, take, Result, Ok, Err, IsErrOf, sym, subst, ◌∙◌, ap, refl, arith}
 use Rattle.rnv_base.specs.Causes.{Rose}
-use Rattle.rnv_commands.specs.OnDisk.{IsDamaged, IsStored}
-use Rattle.rnv_forge.specs.declared.write.Write.{Write}
 use Rattle.rnv_plan.specs.declared.error.RunError.{RunError}
 use Rattle.rnv_plan.specs.declared.error.RunError.TheVariants as run
 use Rattle.rnv_run.specs.declared.on_disk.RunRefusal.{RunRefusal}
 use Rattle.rnv_run.specs.declared.on_disk.RunRefusal.TheVariants as of_run
 use Rattle.rnv_run.specs.OnDisk.{IsRefusedIn, Runs}
 use Rattle.rnv_run.proofs.Exact.{refused_one, run_unrefused, stored_whole}
-use Rattle.rnv_app.specs.Top.{running, IsDamagedOr, IsFreeRun, IsRunCauseOr, IsRunEnd, Sight}
+use Rattle.rnv_app.specs.Top.{running, IsFreeRun, IsRunCauseOr, IsRunEnd, Sight}
 use Rattle.rnv_app.specs.declared.end.Refusal.{Refusal}
 use Rattle.rnv_app.specs.declared.end.Refusal.TheVariants.{Memory, Usage, UnknownRepo, FolderFault, DiskFault, NotAJournal, Limit, IndexRefused, NotBuilt}
 use Rattle.rnv_app.specs.End.{code_of, refusal_text, line_of, status_of as error_status, IsLine, IsStatus, IsTold}
@@ -84,6 +82,17 @@ only_7 (Limit which number) e = absurd (omega (arith, e))
 only_7 (IndexRefused file at) e = absurd (omega (arith, e))
 only_7 (NotBuilt path) e = absurd (omega (arith, e))
 
+only_8 : (refusal : Refusal) → code_of refusal ≡ 8 → (offset : ℕ) × (refusal ≡ NotAJournal offset)
+only_8 Memory e = absurd (omega (arith, e))
+only_8 Usage e = absurd (omega (arith, e))
+only_8 UnknownRepo e = absurd (omega (arith, e))
+only_8 FolderFault e = absurd (omega (arith, e))
+only_8 DiskFault e = absurd (omega (arith, e))
+only_8 (NotAJournal offset) e = (offset, refl)
+only_8 (Limit which number) e = absurd (omega (arith, e))
+only_8 (IndexRefused file at) e = absurd (omega (arith, e))
+only_8 (NotBuilt path) e = absurd (omega (arith, e))
+
 module _ (tells : Type 0) (before after : List ℕ) (faults now : ℕ) where
   abbrev pub Told : Answer → ℕ → Type 0
   Told answer code = IsTold tells before after faults now answer code
@@ -110,6 +119,12 @@ module _ (tells : Type 0) (before after : List ℕ) (faults now : ℕ) where
 
   pub disk_at : (answer : Answer) (code : ℕ) → Told answer code → code ≡ 7 → answer ≡ Err DiskFault
   disk_at answer code told e = let r = refused_at answer code 7 told e (λ k. absurd (omega (arith, k))) (λ k. absurd (omega (arith, k))) in r.1 ∙ ap Err (only_7 r.0 r.2)
+
+  pub damaged_at : (answer : Answer) (code : ℕ) → Told answer code → code ≡ 8 → (offset : ℕ) × (answer ≡ Err (NotAJournal offset))
+  damaged_at answer code told e =
+      let r = refused_at answer code 8 told e (λ k. absurd (omega (arith, k))) (λ k. absurd (omega (arith, k))) in
+      let o = only_8 r.0 r.2 in
+      (o.0, r.1 ∙ ap Err o.1)
 
   pub done_at : (answer : Answer) (code : ℕ) → Told answer code → code ≡ 0 → (text : List ℕ) × (answer ≡ Ok text) × (tells → after ≡ before ++ text)
   done_at (Ok text) code (inl w) e = (text, refl, w.whole)
@@ -171,28 +186,9 @@ run_exactly s repo moment tells before after faults now code end t d error cause
     by (Ok text) told runs = absurd (run_unrefused s.folder_tells s.files repo moment 268435456 s.file s.entry s.exit text error t (runs.done d) cause)
     by (Err (of_run.NotAJournal offset)) r runs = absurd (stored_whole 268435456 s.file cause.old offset cause.stored (runs.refused t d))
     by (Err (of_run.Ended run.Memory)) r runs = inr (inl r.status)
-    by (Err (of_run.Ended run.FolderFault)) r runs = inr (inr (inr (r.status, runs.folder d refl)))
+    by (Err (of_run.Ended run.FolderFault)) r runs = inr (inr (inr (r.status, runs.file_told d)))
     by (Err (of_run.Ended run.DiskFault)) r runs = inr (inr (inl r.status))
     by (Err (of_run.Ended run.UnknownRepo)) r runs = one run.UnknownRepo (runs.refused t d) r.status
     by (Err (of_run.Ended (run.NotBuilt path))) r runs = one (run.NotBuilt path) (runs.refused t d) r.status
     by (Err (of_run.Ended (run.Limit which number))) r runs = one (run.Limit which number) (runs.refused t d) r.status
     by (Err (of_run.Ended (run.IndexRefused file line))) r runs = one (run.IndexRefused file line) (runs.refused t d) r.status
-
--- a run over bytes that are no store
-pub run_damaged : (s : Sight) (repo : List ℕ) (moment : ℕ) (tells : Type 0) (before after : List ℕ) (faults now code : ℕ) → IsRunEnd s repo moment tells before after faults now code → s.folder_tells → s.disk_tells
-    → (offset : ℕ) → IsDamaged 268435456 s.file offset → IsDamagedOr code
-run_damaged s repo moment tells before after faults now code end t d offset damaged = by end.answer end.told end.runs
-  where
-    whole : (old : List Write) → IsStored 268435456 s.file old → IsDamagedOr code
-    whole old stored = absurd (stored_whole 268435456 s.file old offset stored damaged)
-
-    by : (answer : Result (List ℕ) RunRefusal) → IsTold tells before after faults now (running answer) code → Runs s.folder_tells s.files s.disk_tells s.file s.entry s.exit repo moment answer → IsDamagedOr code
-    by (Ok text) told runs = let has = runs.done d in whole has.old has.stored
-    by (Err (of_run.NotAJournal at)) r runs = inl r.status
-    by (Err (of_run.Ended run.Memory)) r runs = inr (inl r.status)
-    by (Err (of_run.Ended run.FolderFault)) r runs = let has = runs.folder d refl in whole has.old has.stored
-    by (Err (of_run.Ended run.DiskFault)) r runs = inr (inr r.status)
-    by (Err (of_run.Ended run.UnknownRepo)) r runs = let c = runs.refused t d in whole c.old c.stored
-    by (Err (of_run.Ended (run.NotBuilt path))) r runs = let c = runs.refused t d in whole c.old c.stored
-    by (Err (of_run.Ended (run.Limit which number))) r runs = let c = runs.refused t d in whole c.old c.stored
-    by (Err (of_run.Ended (run.IndexRefused file line))) r runs = let c = runs.refused t d in whole c.old c.stored

@@ -2,22 +2,25 @@
 use Rattle.std.specs.Prelude.{◌≡◌, ◌≢◌, ◌⊎◌, ℕ, List, ◌++◌, take, Result, Ok, Err, IfErr, IfOk}
 use Rattle.rnv_base.specs.Files.{NamedFile}
 use Rattle.rnv_base.specs.Moment.{IsMomentText}
-use Rattle.rnv_commands.specs.OnDisk.{IsDamaged, HasImported, IsNotImported, IsNotShown, IsReadingOrImport, IsShownOf}
+use Rattle.rnv_commands.specs.OnDisk.{IsDamaged, HasImported, IsNotImported, IsNotShown, IsReadingOrImport, IsRefusedIn as IsImportRefusedIn, IsShownOf, IsUnknownIn}
 use Rattle.rnv_commands.specs.declared.error.CommandError.{CommandError}
-use Rattle.rnv_commands.specs.declared.error.CommandError.TheVariants.{DiskFault as disk_fault}
+use Rattle.rnv_commands.specs.declared.error.CommandError.TheVariants as command
+use Rattle.rnv_disk.specs.Images.{Image}
 use Rattle.rnv_disk.specs.Stops.{Past}
 use Rattle.rnv_journal.specs.Readings.{HasReadingsNow, KeepsReadings, ReadsOnly}
+use Rattle.rnv_journal.specs.declared.start.StartError.TheVariants.{NotAJournal as start_damaged}
 use Rattle.rnv_plan.specs.declared.item.Item.{Item}
 use Rattle.rnv_plan.specs.declared.error.RunError.{RunError}
 use Rattle.rnv_plan.specs.declared.error.RunError.TheVariants as run
 use Rattle.rnv_plan.specs.Plan.{IsPlanned, IsPlanRefusal}
 use Rattle.rnv_run.specs.declared.on_disk.RunRefusal.{RunRefusal}
 use Rattle.rnv_run.specs.OnDisk.{HasRepo, IsRefusedIn, Runs}
+use Rattle.rnv_store.specs.Start.{LeavesRefused}
 use Rattle.rnv_app.specs.declared.end.Refusal.{Refusal}
 use Rattle.rnv_app.specs.declared.end.Refusal.TheVariants.{Memory, Usage, UnknownRepo, FolderFault, DiskFault, NotAJournal, Limit, IndexRefused, NotBuilt}
 use Rattle.rnv_app.specs.Words.{IsImport, IsPlan, IsRun, IsShow, IsUsage}
 use Rattle.rnv_app.specs.Text.{plan_text}
-use Rattle.rnv_app.specs.End.{plan_refusal_of, refusal_of, refusal_text, run_refusal_of, status_of, IsLine, IsTold}
+use Rattle.rnv_app.specs.End.{code_of, plan_refusal_of, refusal_of, refusal_text, run_refusal_of, status_of, IsLine, IsTold}
 
 -- plan
 
@@ -115,7 +118,7 @@ pub record Sight : Type 1 where
 -- store has the folder's files as base; a refusal tells its cause.
 pub record Imports (s : Sight) (repo : List ℕ) (answer : Result (List ℕ) CommandError) : Type 0 where
   pub stops : HasReadingsNow 268435456 s.entry → ReadsOnly 268435456 s.entry s.exit (IsReadingOrImport s.folder_tells s.files repo 268435456 s.entry)
-  pub unwritten : IfErr answer (λ error. error ≢ disk_fault → KeepsReadings 268435456 s.entry s.exit)
+  pub unwritten : IfErr answer (λ error. error ≢ command.DiskFault → KeepsReadings 268435456 s.entry s.exit)
   pub imported : s.disk_tells → IfOk answer (HasImported s.folder_tells s.files repo 268435456 s.file s.exit)
   pub refused : s.disk_tells → IfErr answer (IsNotImported s.folder_tells s.files repo 268435456 s.file)
 
@@ -160,14 +163,65 @@ pub record IsFreeRun (files : List NamedFile) (repo : List ℕ) (moment : ℕ) (
   pub whole : (offset : ℕ) → ¬ (IsDamaged 268435456 file offset)
   pub free : (error : RunError) → ¬ (IsRefusedIn files repo moment 268435456 file error)
 
+-- ---- causes of refusals over the store
+
+-- the refusals of an import that have a cause in the folder's files and the store
+abbrev pub IsCaused : CommandError → Type 0
+IsCaused command.Memory = ⊥
+IsCaused command.UnknownRepo = Unit {0}
+IsCaused command.FolderFault = ⊥
+IsCaused command.DiskFault = ⊥
+IsCaused (command.NotAJournal offset) = ⊥
+IsCaused (command.Limit which number) = Unit {0}
+
+-- the store of a file, into which the import of a folder's files is refused for this: they are more than a base may have, there is none of
+-- them, or the one write has no room
+pub record HasNoImport (files : List NamedFile) (repo : List ℕ) (file : List ℕ) (error : CommandError) : Type 0 where
+  pub caused : IsCaused error
+  pub refused : IsImportRefusedIn (Unit {0}) files repo 268435456 file error
+
+-- the file of the disk is a store, and neither it nor the folder's files are the cause of a refusal of an import
+pub record IsFreeImport (files : List NamedFile) (repo : List ℕ) (file : List ℕ) : Type 0 where
+  pub whole : (offset : ℕ) → ¬ (IsDamaged 268435456 file offset)
+  pub free : (error : CommandError) → ¬ (HasNoImport files repo file error)
+
+-- the file of the disk is a store, which does not lack the repository
+pub record IsFreeShow (repo file : List ℕ) : Type 0 where
+  pub whole : (offset : ℕ) → ¬ (IsDamaged 268435456 file offset)
+  pub known : ¬ (IsUnknownIn repo 268435456 file)
+
 -- What may come where this is the cause of a refusal in the store and the folder's files: its status; or before it want of memory, a
 -- fault of the disk, or one of the folder, for which the store has to have the repository.
 abbrev pub IsRunCauseOr : List ℕ → List ℕ → RunError → ℕ → Type 0
 IsRunCauseOr repo file error code = (code ≡ status_of error) ⊎ ((code ≡ 1) ⊎ ((code ≡ 7) ⊎ ((code ≡ 5) × HasRepo repo 268435456 file)))
 
+-- the same of an import: its status; or before it want of memory, or a fault of the disk or of the folder
+abbrev pub IsImportCauseOr : CommandError → ℕ → Type 0
+IsImportCauseOr error code = (code ≡ code_of (refusal_of error)) ⊎ ((code ≡ 1) ⊎ ((code ≡ 7) ⊎ (code ≡ 5)))
+
 -- what may come where the bytes on the disk are no store: 8; or before it want of memory, or a fault of the disk
 abbrev pub IsDamagedOr : ℕ → Type 0
 IsDamagedOr code = (code ≡ 8) ⊎ ((code ≡ 1) ⊎ (code ≡ 7))
+
+-- what may come where the store lacks the repository: 3; or before it want of memory, or a fault of the disk
+abbrev pub IsUnknownOr : ℕ → Type 0
+IsUnknownOr code = (code ≡ 3) ⊎ ((code ≡ 1) ⊎ (code ≡ 7))
+
+-- What is left of a disk whose bytes are no store: a file that is no journal is not written to, and a journal loses no entry.
+abbrev pub IsLeftAlone : ℕ → Image → Image → Past → Past → Type 0
+IsLeftAlone limit old new before now = (offset : ℕ) × LeavesRefused limit old new before now (start_damaged offset)
+
+-- the same where this is the refusal
+abbrev pub LeavesNoStore : ℕ → Image → Image → Past → Past → Refusal → Type 0
+LeavesNoStore limit old new before now Memory = Unit {0}
+LeavesNoStore limit old new before now Usage = Unit {0}
+LeavesNoStore limit old new before now UnknownRepo = Unit {0}
+LeavesNoStore limit old new before now FolderFault = Unit {0}
+LeavesNoStore limit old new before now DiskFault = Unit {0}
+LeavesNoStore limit old new before now (NotAJournal offset) = LeavesRefused limit old new before now (start_damaged offset)
+LeavesNoStore limit old new before now (Limit which number) = Unit {0}
+LeavesNoStore limit old new before now (IndexRefused file line) = Unit {0}
+LeavesNoStore limit old new before now (NotBuilt path) = Unit {0}
 
 -- the text or refusal that the words give
 

@@ -1,5 +1,5 @@
 -- What the program's words ask for.
-use Rattle.std.specs.Prelude.{◌≡◌, ℕ, List, [], ◌∷◌, codes}
+use Rattle.std.specs.Prelude.{◌≡◌, ◌⊎◌, ℕ, List, [], ◌∷◌, codes}
 use Rattle.rnv_base.specs.Names.{IsRepositoryName}
 use Rattle.rnv_base.specs.Moment.{IsMoment, IsMomentText}
 use Rattle.rnv_app.specs.declared.words.Words.{Words}
@@ -39,6 +39,10 @@ IsImport words repo = IsCommand (codes "import") words repo
 -- `show REPO`
 abbrev pub IsShow : List (List ℕ) → List ℕ → Type 0
 IsShow words repo = IsCommand (codes "show") words repo
+
+-- a command over the store's repository of that name
+abbrev pub IsOfStore : List (List ℕ) → List ℕ → Type 0
+IsOfStore words repo = ((now : ℕ) × IsRun words repo now) ⊎ (IsImport words repo ⊎ IsShow words repo)
 
 abbrev pub AreWords : List (List ℕ) → Words → Type 0
 AreWords words (Plan repo now) = IsPlan words repo now

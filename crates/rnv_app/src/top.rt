@@ -2,12 +2,14 @@ ghost use Rattle.std.specs.Prelude.{◌≡◌, ◌↔◌, ◌⊎◌, ◌≤◌, 
 ghost use Rattle.rnv_base.specs.Causes.{Rose, FaultsBy};
 ghost use Rattle.rnv_base.specs.Files.{NamedFile};
 ghost use Rattle.rnv_app.specs.End.{line_of, status_of, IsCause, IsCauseOr, IsLine, IsStatus, IsTold};
-ghost use Rattle.rnv_app.specs.Top.{refusing, HasNoPlan, HasPlan, IsAnswered, IsForImport, IsForShow, IsFree, IsFreeRun, IsImportEnd, IsNamed, IsOfPlan, IsPrinted, IsPrintedInPart, IsRefusedWith, IsDamagedOr, IsForRun, IsRunCauseOr, IsRunEnd, IsShowEnd, Tells, running};
-ghost use Rattle.rnv_app.specs.Words.{IsImport, IsPlan, IsRun, IsShow, IsUsage};
+ghost use Rattle.rnv_app.specs.Top.{refusing, HasNoImport, HasNoPlan, HasPlan, IsAnswered, IsDamagedOr, IsForImport, IsForRun, IsForShow, IsFree, IsFreeImport, IsFreeRun, IsFreeShow, IsImportCauseOr, IsImportEnd, IsLeftAlone, IsNamed, IsOfPlan, IsPrinted, IsPrintedInPart, IsRefusedWith, IsRunCauseOr, IsRunEnd, IsShowEnd, IsUnknownOr, LeavesNoStore, Tells, running};
+ghost use Rattle.rnv_app.specs.Words.{IsImport, IsOfStore, IsPlan, IsRun, IsShow, IsUsage};
 ghost use Rattle.rnv_app.specs.declared.end.Refusal.{Refusal as Cause};
 ghost use Rattle.rnv_app.specs.declared.end.Refusal.TheVariants.{DiskFault as disk_fault, FolderFault as folder_fault, Memory as no_memory};
+ghost use Rattle.rnv_commands.specs.declared.error.CommandError.{CommandError as StoreError};
+ghost use Rattle.rnv_commands.specs.OnDisk.{IsDamaged, IsUnknownIn};
+ghost use Rattle.rnv_journal.specs.Readings.{KeepsOne};
 ghost use Rattle.rnv_plan.specs.declared.error.RunError.{RunError as Error};
-ghost use Rattle.rnv_commands.specs.OnDisk.{IsDamaged};
 ghost use Rattle.rnv_plan.specs.Plan.{IsPlanned, IsPlanRefusal};
 ghost use Rattle.rnv_run.specs.OnDisk.{IsRefusedIn};
 
@@ -97,13 +99,24 @@ pub fn renovate<K: Sink, O: Folder, D: Disk>(
     ensures run { (repo : Items ℕ) (now : ℕ) → IsRun words.now repo now → IsRunEnd (record { folder_tells = O.tells; files = O.files outside.folder; disk_tells = D.tells; file = (D.seen outside.disk).zero; entry = D.past outside.disk; exit = D.past result.outside.disk; same_disk = result.outside.disk ≡ outside.disk })
         repo now K.tells (K.held outside.out) (K.held result.outside.out) (K.faults outside.out) (K.faults result.outside.out) result.status.code }
 
+    // File `One` of the disk is left alone, and so is what is no store, and the whole disk by words that ask for nothing.
+    ensures other { KeepsOne (D.past outside.disk) (D.past result.outside.disk) }
+    ensures left { D.tells → result.status.code ≡ 8 → IsLeftAlone 268435456 (D.seen outside.disk) (D.seen result.outside.disk) (D.past outside.disk) (D.past result.outside.disk) }
+    ensures usage_alone { result.status.code ≡ 2 → result.outside.disk ≡ outside.disk }
+
+    // What a command over the store answers where it has no cause of a refusal and nothing fails.
+    ensures import_complete { (repo : Items ℕ) → IsImport words.now repo → O.tells → D.tells → IsFreeImport (O.files outside.folder) repo (D.seen outside.disk).zero → ¬ Rose (O.faults outside.folder) (O.faults result.outside.folder) → ¬ Rose (D.faults outside.disk) (D.faults result.outside.disk) → ¬ Rose (K.faults outside.out) (K.faults result.outside.out) → (result.status.code ≡ 0) ⊎ (result.status.code ≡ 1) }
+    ensures show_complete { (repo : Items ℕ) → IsShow words.now repo → D.tells → IsFreeShow repo (D.seen outside.disk).zero → ¬ Rose (D.faults outside.disk) (D.faults result.outside.disk) → ¬ Rose (K.faults outside.out) (K.faults result.outside.out) → (result.status.code ≡ 0) ⊎ (result.status.code ≡ 1) }
     ensures run_complete { (repo : Items ℕ) (now : ℕ) → IsRun words.now repo now → O.tells → D.tells → IsFreeRun (O.files outside.folder) repo now (D.seen outside.disk).zero → ¬ Rose (O.faults outside.folder) (O.faults result.outside.folder) → ¬ Rose (D.faults outside.disk) (D.faults result.outside.disk) → ¬ Rose (K.faults outside.out) (K.faults result.outside.out) → (result.status.code ≡ 0) ⊎ (result.status.code ≡ 1) }
 
-    // Each cause of a refusal of a run, but for want of memory or a fault before it; one of the folder only where the store
-    // has the repository.
+    // Each cause of its refusal, but for want of memory or a fault before it. First that the bytes are no store; then, but for an import,
+    // that the store lacks the repository; then of an import and of a run the others. So a fault of the folder comes only where the bytes
+    // are a store, and in a run where it has the repository.
+    ensures damaged { (repo : Items ℕ) → IsOfStore words.now repo → D.tells → (offset : ℕ) → IsDamaged 268435456 (D.seen outside.disk).zero offset → IsDamagedOr result.status.code }
+    ensures import_exactly { (repo : Items ℕ) → IsImport words.now repo → O.tells → D.tells → (error : StoreError) → HasNoImport (O.files outside.folder) repo (D.seen outside.disk).zero error → IsImportCauseOr error result.status.code }
+    ensures show_exactly { (repo : Items ℕ) → IsShow words.now repo → D.tells → IsUnknownIn repo 268435456 (D.seen outside.disk).zero → IsUnknownOr result.status.code }
+    ensures run_unknown { (repo : Items ℕ) (now : ℕ) → IsRun words.now repo now → D.tells → IsUnknownIn repo 268435456 (D.seen outside.disk).zero → IsUnknownOr result.status.code }
     ensures run_exactly { (repo : Items ℕ) (now : ℕ) → IsRun words.now repo now → O.tells → D.tells → (error : Error) → IsRefusedIn (O.files outside.folder) repo now 268435456 (D.seen outside.disk).zero error → IsRunCauseOr repo (D.seen outside.disk).zero error result.status.code }
-
-    ensures run_damaged { (repo : Items ℕ) (now : ℕ) → IsRun words.now repo now → O.tells → D.tells → (offset : ℕ) → IsDamaged 268435456 (D.seen outside.disk).zero offset → IsDamagedOr result.status.code }
 
     ensures same { O.tells → (O.files result.outside.folder ≡ O.files outside.folder) }
     ensures folder_later { O.faults outside.folder ≤ O.faults result.outside.folder }
@@ -138,6 +151,8 @@ fn answer_to<O: Folder, D: Disk>(
     disk: D,
 ) -> Answered<D>
     ensures answered { IsAnswered (record { folder_tells = O.tells; files = O.files folder.old; disk_tells = D.tells; file = (D.seen disk).zero; entry = D.past disk; exit = D.past result.disk; same_disk = result.disk ≡ disk }) words.now result.text }
+    ensures other { KeepsOne (D.past disk) (D.past result.disk) }
+    ensures left { D.tells → IfErr result.text (LeavesNoStore 268435456 (D.seen disk) (D.seen result.disk) (D.past disk) (D.past result.disk)) }
     ensures same { O.tells → (O.files folder.new ≡ O.files folder.old) }
     ensures folder_cause { FaultsBy (O.faults folder.old) (O.faults folder.new) result.text folder_fault }
     ensures disk_cause { FaultsBy (D.faults disk) (D.faults result.disk) result.text disk_fault }
@@ -187,6 +202,8 @@ fn import_for<O: Folder, D: Disk>(
 ) -> Answered<D>
     requires { IsImport words.now repo.now }
     ensures answered { IsForImport (record { folder_tells = O.tells; files = O.files folder.old; disk_tells = D.tells; file = (D.seen disk).zero; entry = D.past disk; exit = D.past result.disk; same_disk = result.disk ≡ disk }) words.now result.text }
+    ensures other { KeepsOne (D.past disk) (D.past result.disk) }
+    ensures left { D.tells → IfErr result.text (LeavesNoStore 268435456 (D.seen disk) (D.seen result.disk) (D.past disk) (D.past result.disk)) }
     ensures same { O.tells → (O.files folder.new ≡ O.files folder.old) }
     ensures folder_cause { FaultsBy (O.faults folder.old) (O.faults folder.new) result.text folder_fault }
     ensures disk_cause { FaultsBy (D.faults disk) (D.faults result.disk) result.text disk_fault }
@@ -219,6 +236,8 @@ fn run_for<O: Folder, D: Disk>(
 ) -> Answered<D>
     requires { IsRun words.now repo.now now }
     ensures answered { IsForRun (record { folder_tells = O.tells; files = O.files folder.old; disk_tells = D.tells; file = (D.seen disk).zero; entry = D.past disk; exit = D.past result.disk; same_disk = result.disk ≡ disk }) words.now result.text }
+    ensures other { KeepsOne (D.past disk) (D.past result.disk) }
+    ensures left { D.tells → IfErr result.text (LeavesNoStore 268435456 (D.seen disk) (D.seen result.disk) (D.past disk) (D.past result.disk)) }
     ensures same { O.tells → (O.files folder.new ≡ O.files folder.old) }
     ensures folder_cause { FaultsBy (O.faults folder.old) (O.faults folder.new) result.text folder_fault }
     ensures disk_cause { FaultsBy (D.faults disk) (D.faults result.disk) result.text disk_fault }
@@ -241,6 +260,8 @@ fn show_for<O: Folder, D: Disk>(
 ) -> Answered<D>
     requires { IsShow words.now repo.now }
     ensures answered { IsForShow (record { folder_tells = O.tells; files = O.files folder.old; disk_tells = D.tells; file = (D.seen disk).zero; entry = D.past disk; exit = D.past result.disk; same_disk = result.disk ≡ disk }) words.now result.text }
+    ensures other { KeepsOne (D.past disk) (D.past result.disk) }
+    ensures left { D.tells → IfErr result.text (LeavesNoStore 268435456 (D.seen disk) (D.seen result.disk) (D.past disk) (D.past result.disk)) }
     ensures same { folder.new ≡ folder.old }
     ensures folder_cause { FaultsBy (O.faults folder.old) (O.faults folder.new) result.text folder_fault }
     ensures disk_cause { FaultsBy (D.faults disk) (D.faults result.disk) result.text disk_fault }

@@ -46,7 +46,7 @@ outcome-one files front path (Some f) (Some g) a b =
     ap (λ (n : NamedFile). Some n)
     (same-named f.path g.path f.bytes g.bytes (append_cancel_left front f.path g.path (sym a.0.place ∙ b.0.place)) (same_Some f.bytes g.bytes (sym a.0.bytes ∙ b.0.bytes)))
 
-kept-one : (files : List NamedFile) (front : List ℕ) (kept other : List NamedFile) (passed more : ℕ) → IsBase files front kept passed → IsBase files front other more → kept ≡ other
+pub kept-one : (files : List NamedFile) (front : List ℕ) (kept other : List NamedFile) (passed more : ℕ) → IsBase files front kept passed → IsBase files front other more → kept ≡ other
 kept-one files front kept other passed more a b =
     a.kept_are ∙ (ap kept_of (zip_one (IsOutcome files front) (outcome-one files front) (listed_of front files) a.outcomes b.outcomes a.each b.each) ∙ sym b.kept_are)
 
@@ -55,11 +55,11 @@ base-one repo files base other a b = a.same ∙ (ap (map unchanged) (kept-one fi
 
 -- ---- one refusal
 
-within-above : (kept : List NamedFile) (which : List ℕ) (number : ℕ) → IsWithin kept → IsAbove which number kept → ⊥
+pub within-above : (kept : List NamedFile) (which : List ℕ) (number : ℕ) → IsWithin kept → IsAbove which number kept → ⊥
 within-above kept which number within (inl above) = omega (arith, within.few, above.2)
 within-above kept which number within (inr above) = omega (arith, within.small, above.3)
 
-none-above : (kept : List NamedFile) (which : List ℕ) (number : ℕ) → kept ≡ [] → IsAbove which number kept → ⊥
+pub none-above : (kept : List NamedFile) (which : List ℕ) (number : ℕ) → kept ≡ [] → IsAbove which number kept → ⊥
 none-above kept which number none (inl above) = omega (arith, ap length none, above.2)
 none-above kept which number none (inr above) = omega (arith, ap size_of none, above.3)
 

@@ -57,6 +57,7 @@ fn check_each(alloc: Global, taken: &[TakenFile]) -> Result<(), RunError>
     ensures unbuilt { IfErr result (IfTold (λ error. (path : Items ℕ) × IsFirstUnbuilt taken.now path × (error ≡ RunError.NotBuilt path))) }
     ensures fault { result ≢ Err RunError.FolderFault }
     ensures disk { result ≢ Err RunError.DiskFault }
+    ensures unknown { result ≢ Err RunError.UnknownRepo }
 {
     for file in taken {
         if !is_built(alloc, file)? {
@@ -72,6 +73,7 @@ fn check_plain(alloc: Global, files: &[FileAt]) -> Result<(), RunError>
     ensures configured { IfErr result (IfTold (λ error. (is_configured files.now ≡ true) × (error ≡ RunError.NotBuilt (codes "renovate.json")))) }
     ensures fault { result ≢ Err RunError.FolderFault }
     ensures disk { result ≢ Err RunError.DiskFault }
+    ensures unknown { result ≢ Err RunError.UnknownRepo }
 {
     if is_configured(files) {
         return Err(not_built(alloc, "renovate.json"));
@@ -86,6 +88,7 @@ pub(crate) fn built(alloc: Global, files: &[FileAt]) -> Result<List<TakenFile>, 
     ensures refused { (index : Items NamedFile) → IfErr result (IfTold (IsRefusal index files.now)) }
     ensures fault { result ≢ Err RunError.FolderFault }
     ensures disk { result ≢ Err RunError.DiskFault }
+    ensures unknown { result ≢ Err RunError.UnknownRepo }
 {
     let taken = taken(alloc, files)?;
     check_plain(alloc, files)?;

@@ -47,6 +47,7 @@ pub(crate) fn limit(alloc: Global, which: &str, number: u64) -> RunError
     ensures told { IfTold (λ error. error ≡ RunError.Limit which.now number) result }
     ensures fault { result ≢ RunError.FolderFault }
     ensures disk { result ≢ RunError.DiskFault }
+    ensures unknown { result ≢ RunError.UnknownRepo }
 {
     match Text::copied(alloc, which) {
         Ok(which) => RunError::Limit { which, number },
@@ -59,6 +60,7 @@ pub(crate) fn not_built(alloc: Global, path: &str) -> RunError
     ensures told { IfTold (λ error. error ≡ RunError.NotBuilt path.now) result }
     ensures fault { result ≢ RunError.FolderFault }
     ensures disk { result ≢ RunError.DiskFault }
+    ensures unknown { result ≢ RunError.UnknownRepo }
 {
     match Text::copied(alloc, path) {
         Ok(path) => RunError::NotBuilt { path },

@@ -34,6 +34,7 @@ fn gather_taken<O: Folder>(
     ensures same { O.tells → (O.files folder.new ≡ O.files folder.old) }
     ensures cause { FaultsBy (O.faults folder.old) (O.faults folder.new) result RunError.FolderFault }
     ensures disk { result ≢ Err RunError.DiskFault }
+    ensures unknown { result ≢ Err RunError.UnknownRepo }
 {
     let indexes = read_indexes(alloc, folder, taken.as_slice())?;
     Ok(pick_files(alloc, taken, &indexes)?)
@@ -54,6 +55,7 @@ fn gather_files<O: Folder>(
     // The folder is read only where nothing of the base is refused.
     ensures reads { result ≡ Err RunError.FolderFault → (taken : Items OfTaken) × AreBuilt files.now taken }
     ensures disk { result ≢ Err RunError.DiskFault }
+    ensures unknown { result ≢ Err RunError.UnknownRepo }
 {
     match built(alloc, files) {
         Ok(taken) => gather_taken(alloc, folder, taken),
@@ -106,6 +108,7 @@ pub fn gather_base<O: Folder>(
     // The folder is read only where nothing of the base is refused.
     ensures reads { result ≡ Err RunError.FolderFault → (taken : Items OfTaken) × AreBuilt files.now taken }
     ensures disk { result ≢ Err RunError.DiskFault }
+    ensures unknown { result ≢ Err RunError.UnknownRepo }
 {
     let picked = gather_files(alloc, folder, files.as_slice())?;
     Ok(inputs(alloc, repo, moment, picked)?)

@@ -47,6 +47,7 @@ fn refused(alloc: Global, name: &str, line: u64) -> RunError
     ensures told { IfTold (λ error. error ≡ RunError.IndexRefused (npm_path name.now) line) result }
     ensures fault { result ≢ RunError.FolderFault }
     ensures disk { result ≢ RunError.DiskFault }
+    ensures unknown { result ≢ RunError.UnknownRepo }
 {
     match NpmIndex.path(alloc, name) {
         Ok(file) => RunError::IndexRefused { file, line },
@@ -66,6 +67,7 @@ fn read_index<O: Folder>(
     ensures same { O.tells → (O.files folder.new ≡ O.files folder.old) }
     ensures cause { FaultsBy (O.faults folder.old) (O.faults folder.new) result RunError.FolderFault }
     ensures disk { result ≢ Err RunError.DiskFault }
+    ensures unknown { result ≢ Err RunError.UnknownRepo }
 {
     match read_releases(alloc, folder, &NpmIndex, name) {
         Ok(found) => Ok(found),
@@ -90,6 +92,7 @@ fn read_each<O: Folder>(
     ensures same { O.tells → (O.files folder.new ≡ O.files folder.old) }
     ensures cause { FaultsBy (O.faults folder.old) (O.faults folder.new) result RunError.FolderFault }
     ensures disk { result ≢ Err RunError.DiskFault }
+    ensures unknown { result ≢ Err RunError.UnknownRepo }
 {
     let mut indexes = BTreeMap::new(alloc);
     for name in names {
@@ -113,6 +116,7 @@ pub(crate) fn read_indexes<O: Folder>(
     ensures same { O.tells → (O.files folder.new ≡ O.files folder.old) }
     ensures cause { FaultsBy (O.faults folder.old) (O.faults folder.new) result RunError.FolderFault }
     ensures disk { result ≢ Err RunError.DiskFault }
+    ensures unknown { result ≢ Err RunError.UnknownRepo }
 {
     let names = package_names(alloc, taken)?;
     read_each(alloc, folder, names)

@@ -34,6 +34,7 @@ pub fn few_items(alloc: Global, kept: List<KeptFile>) -> Result<List<Item>, RunE
     ensures many { (picked : Items OfFile) → kept ≡ map kept_file picked → IfErr result (IfTold (HaveManyItems (kept_updates picked))) }
     ensures fault { result ≢ Err RunError.FolderFault }
     ensures disk { result ≢ Err RunError.DiskFault }
+    ensures unknown { result ≢ Err RunError.UnknownRepo }
 {
     let Ok(items) = kept_items(alloc, kept) else {
         return Err(RunError::Memory);
@@ -50,6 +51,7 @@ fn picked_items(alloc: Global, picked: &List<PickedFile>) -> Result<List<Item>, 
     ensures many { IfErr result (IfTold (HaveManyItems (kept_updates picked.now))) }
     ensures fault { result ≢ Err RunError.FolderFault }
     ensures disk { result ≢ Err RunError.DiskFault }
+    ensures unknown { result ≢ Err RunError.UnknownRepo }
 {
     match kept_files(alloc, picked.as_slice()) {
         Ok(kept) => few_items(alloc, kept),

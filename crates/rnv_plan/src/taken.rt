@@ -90,6 +90,7 @@ fn npm_deps(alloc: Global, file: &FileAt, room: usize) -> Result<List<Dep>, RunE
     ensures many { IfErr result (IfTold (λ error. (deps : Items Dep) × AreDeps ManagerKind.Npm file.now deps × (room < length deps) × (error ≡ RunError.Limit (codes "dependencies") 20000))) }
     ensures fault { result ≢ Err RunError.FolderFault }
     ensures disk { result ≢ Err RunError.DiskFault }
+    ensures unknown { result ≢ Err RunError.UnknownRepo }
 {
     let npm = NpmManager;
     let found = found(alloc, &npm, file.bytes.as_slice())?;
@@ -111,6 +112,7 @@ fn file_deps(
     ensures many { IfErr result (IfTold (λ error. (deps : Items Dep) × AreDeps manager file.now deps × (room < length deps) × (error ≡ RunError.Limit (codes "dependencies") 20000))) }
     ensures fault { result ≢ Err RunError.FolderFault }
     ensures disk { result ≢ Err RunError.DiskFault }
+    ensures unknown { result ≢ Err RunError.UnknownRepo }
 {
     match manager {
         ManagerKind::Npm => npm_deps(alloc, file, room),
@@ -127,6 +129,7 @@ pub(crate) fn taken(alloc: Global, files: &[FileAt]) -> Result<List<TakenFile>, 
     ensures many { IfErr result (IfTold (λ error. HaveMany files.now × (error ≡ RunError.Limit (codes "dependencies") 20000))) }
     ensures fault { result ≢ Err RunError.FolderFault }
     ensures disk { result ≢ Err RunError.DiskFault }
+    ensures unknown { result ≢ Err RunError.UnknownRepo }
 {
     let mut taken = List::empty(alloc);
     let mut room = MOST;

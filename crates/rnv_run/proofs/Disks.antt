@@ -25,14 +25,14 @@ use Rattle.rnv_plan.specs.declared.error.RunError.{RunError}
 use Rattle.rnv_plan.specs.declared.error.RunError.TheVariants.{Memory, FolderFault, DiskFault, UnknownRepo, NotBuilt, Limit, IndexRefused}
 use Rattle.rnv_store.specs.Forge.{LeavesWrites}
 use Rattle.rnv_store.specs.Writes.{length_of}
-use Rattle.rnv_store.specs.Start.{IsStoreRefusal}
+use Rattle.rnv_store.specs.Start.{IsStoreRefusal, LeavesRefused}
 use Rattle.rnv_store.proofs.Uses.{leaves_weaker}
 use Rattle.rnv_run.specs.declared.on_disk.RunRefusal.{RunRefusal}
 use Rattle.rnv_run.specs.declared.on_disk.RunRefusal.TheVariants.{Ended, NotAJournal}
 use Rattle.rnv_run.specs.Begun.{BeginsOrStays}
 use Rattle.rnv_run.specs.Front.{IsFront, SpellsFront}
-use Rattle.rnv_run.specs.OnDisk.{ended, IsBegun, HasRepo, IsFinished, IsNotRun, IsRefusedIn, IsStartRefusal, LeavesRun, ReadsFront, Runs}
-use Rattle.rnv_run.specs.Repository.{IfCaused, IsRepoRefusal, IsRun, IsRunDone}
+use Rattle.rnv_run.specs.OnDisk.{ended, IsBegun, IsFinished, IsNotRun, IsOfFile, IsRefusedIn, IsStartRefusal, LeavesNoStore, LeavesRun, ReadsFront, Runs}
+use Rattle.rnv_run.specs.Repository.{IfCaused, IsOfRepo, IsRepoRefusal, IsRun, IsRunDone}
 use Rattle.rnv_run.specs.Run.{IsResumed, IsStoppedRun, LeavesOutcome}
 use Rattle.rnv_run.specs.Text.{PrintsRun}
 use Rattle.rnv_run.proofs.Begun.{begins_later, keeps_begins, told_call}
@@ -162,13 +162,32 @@ refused_ended : (r : Result (List ℕ) RunError) (files : List NamedFile) (name 
 refused_ended (Ok text) files name moment limit file old stored r = tt
 refused_ended (Err e) files name moment limit file old stored r = caused_in files name moment limit file old stored e r
 
-no_fault : (e : RunError) → ended (Err e) ≡ Err (Ended FolderFault) → e ≡ FolderFault
-no_fault e same = cc
+-- what a refusal tells of the file
+of_file : (name : List ℕ) (limit : ℕ) (file : List ℕ) (old : List Write) → IsStored limit file old → (error : RunError) → IsOfRepo name old error → IsOfFile name limit file (Ended error)
+of_file name limit file old stored Memory u = tt
+of_file name limit file old stored FolderFault u = record { old = old; stored = stored; repo = u.repo; there = u.there }
+of_file name limit file old stored DiskFault u = tt
+of_file name limit file old stored UnknownRepo u = record { writes = old; stored = stored; unknown = u }
+of_file name limit file old stored (NotBuilt path) u = record { old = old; stored = stored; repo = u.repo; there = u.there }
+of_file name limit file old stored (Limit which number) u = record { old = old; stored = stored; repo = u.repo; there = u.there }
+of_file name limit file old stored (IndexRefused path line) u = record { old = old; stored = stored; repo = u.repo; there = u.there }
+
+ended_file : (r : Result (List ℕ) RunError) (name : List ℕ) (limit : ℕ) (file : List ℕ) (old : List Write) → IsStored limit file old → IfErr r (IsOfRepo name old) → IfErr (ended r) (IsOfFile name limit file)
+ended_file (Ok text) name limit file old stored u = tt
+ended_file (Err e) name limit file old stored u = of_file name limit file old stored e u
+
+-- a run behind a start leaves no disk whose bytes are no store
+pub ended_left : (r : Result (List ℕ) RunError) (answer : Result (List ℕ) RunRefusal) → answer ≡ ended r → (limit : ℕ) (old new : Image) (before now : Past) → IfErr answer (LeavesNoStore limit old new before now)
+ended_left r answer is limit old new before now = subst (λ (a : Result (List ℕ) RunRefusal). IfErr a (LeavesNoStore limit old new before now)) (sym is) (by r)
+  where
+    by : (q : Result (List ℕ) RunError) → IfErr (ended q) (LeavesNoStore limit old new before now)
+    by (Ok text) = tt
+    by (Err e) = tt
 
 module _ (folder_tells disk_tells : Type 0) (files : List NamedFile) (file : List ℕ) (entry mid exit : Past) (name : List ℕ) (moment : ℕ) (old : List Write) (r : Result (List ℕ) RunError)
     (keeps : KeepsReadings 268435456 entry mid) (reading : disk_tells → IsReadingNow 268435456 entry (map spelling old)) (stored : disk_tells → IsStored 268435456 file old)
     (told : (t : ℕ) (c : Image) → exit.left t c → disk_tells) (fits : AllByRecursion IsWellFormed old) (any : BeginsOrStays 268435456 (IsRun folder_tells files name moment) mid exit old)
-    (unknown : known name (after old []) ≡ None → IsErrOf r UnknownRepo ⊎ IsErrOf r Memory)
+    (unknown : IfErr r (IsOfRepo name old))
     (unwritten : IfErr r (λ error. error ≢ DiskFault → LeavesWrites 268435456 mid exit (λ ws. ws ≡ old))) (ran : IfOk r (LeavesRun folder_tells files name moment 268435456 old exit))
     (refused : folder_tells → IfErr r (IfCaused (IsRepoRefusal files name moment 268435456 old)))
     (resumed : folder_tells → (start : List Write) (first : Repo) (g : Given) (us vs : List Write) → IsGiven folder_tells files first.files moment g → IsStoppedRun g name start first us vs old
@@ -188,15 +207,6 @@ module _ (folder_tells disk_tells : Type 0) (files : List NamedFile) (file : Lis
   kept_unwritten (Ok text) u = tt
   kept_unwritten (Err e) u = λ ne. keeps_still 268435456 disk_tells entry mid exit old keeps reading told (u (λ same. ne (ap Ended same)))
 
-  -- a fault of the folder, where the repository is there
-  there_at : (o : Option Repo) → known name (after old []) ≡ o → IsErrOf (ended r) (Ended FolderFault) → disk_tells → HasRepo name 268435456 file
-  there_at (Some repo) is fault d = record { old = old; stored = stored d; repo = repo; there = is }
-  there_at None is fault d = by r (unknown is) fault
-    where
-      by : (q : Result (List ℕ) RunError) → IsErrOf q UnknownRepo ⊎ IsErrOf q Memory → IsErrOf (ended q) (Ended FolderFault) → HasRepo name 268435456 file
-      by q (inl e) f = absurd (let same : UnknownRepo ≡ FolderFault = no_fault UnknownRepo (ap ended (sym e) ∙ f) in cc same)
-      by q (inr e) f = absurd (let same : Memory ≡ FolderFault = no_fault Memory (ap ended (sym e) ∙ f) in cc same)
-
   pub runs_of : Runs folder_tells files disk_tells file entry exit name moment (ended r)
   runs_of = record {
     begins = told_call 268435456 over entry mid exit disk_tells old keeps reading told any;
@@ -213,7 +223,7 @@ module _ (folder_tells disk_tells : Type 0) (files : List NamedFile) (file : Lis
     unwritten = kept_unwritten r unwritten;
     done = λ d. ok_ended r _ _ (λ text leaves. record { old = old; stored = stored d; reading = reading d; leaves = leaves }) ran;
     refused = λ t d. refused_ended r files name moment 268435456 file old (stored d) (refused t);
-    folder = λ d fault. there_at (known name (after old [])) refl fault d;
+    file_told = λ d. ended_file r name 268435456 file old (stored d) unknown;
   }
 
 -- the same of an answer that is this one
@@ -227,10 +237,15 @@ start_refused files name moment limit file start_fault refusal is r = subst (IsN
 start_refused files name moment limit file (start_damaged offset) refusal is r = subst (IsNotRun files name moment limit file) (sym is) r
 start_refused files name moment limit file start_memory refusal is r = subst (IsNotRun files name moment limit file) (sym is) tt
 
-start_folder : (error : StartError) (refusal : RunRefusal) → IsStartRefusal error refusal → ¬ (refusal ≡ Ended FolderFault)
-start_folder start_fault refusal is same = let both : Ended DiskFault ≡ Ended FolderFault = sym is ∙ same in absurd (cc both)
-start_folder (start_damaged offset) refusal is same = let both : NotAJournal offset ≡ Ended FolderFault = sym is ∙ same in absurd (cc both)
-start_folder start_memory refusal is same = let both : Ended Memory ≡ Ended FolderFault = sym is ∙ same in absurd (cc both)
+start_file : (name : List ℕ) (limit : ℕ) (file : List ℕ) (error : StartError) (refusal : RunRefusal) → IsStartRefusal error refusal → IsStoreRefusal limit file error → IsOfFile name limit file refusal
+start_file name limit file start_fault refusal is r = subst (IsOfFile name limit file) (sym is) tt
+start_file name limit file (start_damaged offset) refusal is r = subst (IsOfFile name limit file) (sym is) r
+start_file name limit file start_memory refusal is r = subst (IsOfFile name limit file) (sym is) tt
+
+pub start_left : (limit : ℕ) (old new : Image) (before now : Past) (error : StartError) (refusal : RunRefusal) → IsStartRefusal error refusal → LeavesRefused limit old new before now error → LeavesNoStore limit old new before now refusal
+start_left limit old new before now start_fault refusal is left = subst (LeavesNoStore limit old new before now) (sym is) tt
+start_left limit old new before now (start_damaged offset) refusal is left = subst (LeavesNoStore limit old new before now) (sym is) left
+start_left limit old new before now start_memory refusal is left = subst (LeavesNoStore limit old new before now) (sym is) tt
 
 pub runs_refused : (folder_tells : Type 0) (files : List NamedFile) (disk_tells : Type 0) (file : List ℕ) (entry exit : Past) (name : List ℕ) (moment : ℕ) (error : StartError) (refusal : RunRefusal) → KeepsReadings 268435456 entry exit
     → IsStartRefusal error refusal → (disk_tells → IsStoreRefusal 268435456 file error) → Runs folder_tells files disk_tells file entry exit name moment (Err refusal)
@@ -241,7 +256,7 @@ runs_refused folder_tells files disk_tells file entry exit name moment error ref
   unwritten = λ ne. keeps;
   done = λ d. tt;
   refused = λ t d. start_refused files name moment 268435456 file error refusal is (r d);
-  folder = λ d fault. absurd (start_folder error refusal is (let same : refusal ≡ Ended FolderFault = cc fault in same));
+  file_told = λ d. start_file name 268435456 file error refusal is (r d);
 }
 
 -- nothing was done, for want of memory
@@ -254,5 +269,5 @@ runs_none folder_tells files disk_tells file entry exit name moment keeps = reco
   unwritten = λ ne. keeps;
   done = λ t. tt;
   refused = λ t d. tt;
-  folder = λ d fault. absurd (cc fault);
+  file_told = λ d. tt;
 }

@@ -1,6 +1,7 @@
 pub mod Begun
 pub mod Branches
 pub mod Numbers
+pub mod Planned
 pub mod Disks
 pub mod Exact
 pub mod Wanted

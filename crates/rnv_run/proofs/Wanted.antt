@@ -3,12 +3,13 @@ use Rattle.std.proofs.Common.{◌≡◌, ◌≢◌, ◌⊎◌, append_assoc, inl
 use Rattle.std.specs.List.{AllByRecursion}
 use Rattle.std.proofs.lemmas.List.{length-append, take_at}
 use Rattle.rnv_base.specs.Files.{NamedFile}
+use Rattle.rnv_base.specs.Moment.{IsMoment}
 use Rattle.rnv_desired.specs.Desired.{AreDesired}
 use Rattle.rnv_desired.specs.Givens.{IsGiven}
 use Rattle.rnv_desired.proofs.Apart.{given_fit, one_given}
 use Rattle.rnv_disk.specs.Stops.{Past}
 use Rattle.rnv_forge.specs.Files.{MarkedFile}
-use Rattle.rnv_forge.specs.Store.{ArePermitted, IsSound, after, known}
+use Rattle.rnv_forge.specs.Store.{ArePermitted, IsSound, IsSoundStore, after, known}
 use Rattle.rnv_forge.specs.WellFormed.{AreInOrder, IsWellFormed}
 use Rattle.rnv_forge.specs.declared.repo.Repo.{Repo}
 use Rattle.rnv_forge.specs.declared.write.Write.{Write}
@@ -30,15 +31,15 @@ use Rattle.rnv_steps.specs.Told.{HaveBranches, IsTold}
 use Rattle.rnv_store.specs.Forge.{LeavesWrites}
 use Rattle.rnv_store.proofs.Uses.{leaves_weaker}
 use Rattle.rnv_run.specs.Front.{IsFront}
-use Rattle.rnv_run.specs.Repository.{IfCaused, IsRepoRefusal, IsRun, IsRunDone, IsUnwanted, no_items, no_repo, no_room, of_base, unknown}
+use Rattle.rnv_run.specs.Repository.{IfCaused, IsOfRepo, IsRepoRefusal, IsRun, IsRunDone, IsThere, IsUnwanted, no_items, no_repo, no_room, of_base, unknown}
 use Rattle.rnv_run.specs.Run.{IsRunRefusal, IsStoppedRun, IsUnknown, LeavesOutcome}
 use Rattle.rnv_run.specs.Stage.{IsPlain, given_by, plain_terms}
 use Rattle.rnv_run.specs.Text.{PrintsRun}
 use Rattle.rnv_run.proofs.Stored.{same_repo, sound_after}
 
 -- the files of a repository that is found
-pub found_order : (repo : Repo) (old more : List Write) → AllByRecursion IsWellFormed (old ++ more) → ArePermitted (old ++ more) [] → known repo.name (after old []) ≡ Some repo → AreInOrder (λ f. f.path) repo.files
-found_order repo old more fits permitted there = (all_at (λ (r : Repo). r.name) IsSound repo.name (after old []) repo (sound_after old more fits permitted).each there).files
+pub found_order : (repo : Repo) (old : List Write) → IsSoundStore (after old []) → known repo.name (after old []) ≡ Some repo → AreInOrder (λ f. f.path) repo.files
+found_order repo old sound there = (all_at (λ (r : Repo). r.name) IsSound repo.name (after old []) repo sound.each there).files
 
 -- ---- no repository
 
@@ -70,14 +71,48 @@ module _ (name : List ℕ) (ws : List Write) where
   unknown_folder (Limit which number) u e = absurd u
   unknown_folder (IndexRefused file line) u e = absurd u
 
-  pub unknown_first : {T : Type 0} (r : Result T RunError) (error : RunError) → r ≡ Err error → IsUnknown name ws error → IsErrOf r UnknownRepo ⊎ IsErrOf r Memory
-  unknown_first r Memory is u = inr is
-  unknown_first r FolderFault is u = absurd u
-  unknown_first r DiskFault is u = absurd u
-  unknown_first r UnknownRepo is u = inl is
-  unknown_first r (NotBuilt path) is u = absurd u
-  unknown_first r (Limit which number) is u = absurd u
-  unknown_first r (IndexRefused file line) is u = absurd u
+  pub never : known name (after ws []) ≡ None → ¬ (IsThere name ws)
+  never none t = let both : None ≡ Some t.repo = sym none ∙ t.there in absurd (cc both)
+
+  pub unknown_of : (error : RunError) → IsUnknown name ws error → IsOfRepo name ws error
+  unknown_of Memory u = tt
+  unknown_of FolderFault u = absurd u
+  unknown_of DiskFault u = absurd u
+  unknown_of UnknownRepo u = u
+  unknown_of (NotBuilt path) u = absurd u
+  unknown_of (Limit which number) u = absurd u
+  unknown_of (IndexRefused file line) u = absurd u
+
+  -- behind the look-up of a repository that is there
+  pub of_there : (repo : Repo) → known name (after ws []) ≡ Some repo → (error : RunError) → error ≢ UnknownRepo → IsOfRepo name ws error
+  of_there repo there Memory ne = tt
+  of_there repo there FolderFault ne = record { repo = repo; there = there }
+  of_there repo there DiskFault ne = tt
+  of_there repo there UnknownRepo ne = absurd (ne refl)
+  of_there repo there (NotBuilt path) ne = record { repo = repo; there = there }
+  of_there repo there (Limit which number) ne = record { repo = repo; there = there }
+  of_there repo there (IndexRefused file line) ne = record { repo = repo; there = there }
+
+  pub not_of_repo : (repo : Repo) → known name (after ws []) ≡ Some repo → {T : Type 0} (r : Result T RunError) → r ≢ Err UnknownRepo → IfErr r (IsOfRepo name ws)
+  not_of_repo repo there (Ok x) ne = tt
+  not_of_repo repo there (Err e) ne = of_there repo there e (λ same. ne (ap Err same))
+
+  -- where there is none
+  pub of_none : known name (after ws []) ≡ None → (error : RunError) → error ≢ DiskFault → IsOfRepo name ws error → (error ≡ UnknownRepo) ⊎ (error ≡ Memory)
+  of_none none Memory ne u = inr refl
+  of_none none FolderFault ne u = absurd (never none u)
+  of_none none DiskFault ne u = absurd (ne refl)
+  of_none none UnknownRepo ne u = inl refl
+  of_none none (NotBuilt path) ne u = absurd (never none u)
+  of_none none (Limit which number) ne u = absurd (never none u)
+  of_none none (IndexRefused file line) ne u = absurd (never none u)
+
+  pub unknown_answer : {T : Type 0} (r : Result T RunError) (error : RunError) → r ≡ Err error → error ≢ DiskFault → IsOfRepo name ws error → known name (after ws []) ≡ None → IsErrOf r UnknownRepo ⊎ IsErrOf r Memory
+  unknown_answer {T} r error is ne u none = by (of_none none error ne u)
+    where
+      by : (error ≡ UnknownRepo) ⊎ (error ≡ Memory) → IsErrOf r UnknownRepo ⊎ IsErrOf r Memory
+      by (inl e) = inl (is ∙ ap Err e)
+      by (inr e) = inr (is ∙ ap Err e)
 
 -- ---- refusals of a run
 
@@ -108,17 +143,20 @@ run_refused tells files name moment limit old ws (Limit which number) run r =
     no_room ws run r.0 cc
 run_refused tells files name moment limit old ws (IndexRefused file line) run r = absurd r
 
+pub refused_known : (limit : ℕ) (new : List Write) (error : RunError) → IsRunRefusal limit new error → error ≢ UnknownRepo
+refused_known limit new Memory r e = absurd (cc e)
+refused_known limit new FolderFault r e = absurd r
+refused_known limit new DiskFault r e = absurd (cc e)
+refused_known limit new UnknownRepo r e = absurd r
+refused_known limit new (NotBuilt path) r e = absurd r
+refused_known limit new (Limit which number) r e = absurd (cc e)
+refused_known limit new (IndexRefused file line) r e = absurd r
+
 pub if_err : {T : Type 0} (r : Result T RunError) (P Q : RunError → Type 0) → ((e : RunError) → P e → Q e) → IfErr r P → IfErr r Q
 if_err (Ok x) P Q f p = tt
 if_err (Err e) P Q f p = f e p
 
--- ---- a run that was done
-
-pub run_done : (r : Result (List ℕ) RunError) (tells : Type 0) (files : List NamedFile) (name : List ℕ) (moment at : ℕ) (old new ws : List Write) (run : IsRun tells files name moment old ws) → at ≡ moment
-    → OnOk r (new ≡ old ++ ws) → OnOk r (LeavesOutcome run.given name run.repo new) → IfOk r (PrintsRun at run.repo ws) → IfOk r (IsRunDone tells files name moment old new)
-run_done (Ok text) tells files name moment at old new ws run same all leaves prints =
-    record { ws = ws; run = run; all = all; leaves = leaves; prints = subst (λ (m : ℕ). PrintsRun m run.repo ws text) same prints }
-run_done (Err e) tells files name moment at old new ws run same all leaves prints = tt
+-- ---- answers
 
 pub on_ok : {T : Type 0} (r : Result T RunError) (P Q : Type 0) → (P → Q) → OnOk r P → OnOk r Q
 on_ok (Ok x) P Q f p = f p
@@ -134,20 +172,21 @@ on_both (Err e) P Q R f p q = tt
 pub terms_told : (repo : Repo) (t : Terms) (moment : ℕ) (items : List Item) → t ≡ plain_terms moment → IsTold (given_by t.moment items) repo t items
 terms_told repo t moment items is = record { terms = is ∙ ap plain_terms (sym (ap (λ (u : Terms). u.moment) is)); all = refl }
 
-pub plain_fit : (moment : ℕ) (items : List Item) → HaveBranches items → AllByRecursion (λ i. AreInOrder (λ f. f.path) (edited_files i.edits)) items → IsFit (given_by moment items)
-plain_fit moment items apart ordered = record { distinct = apart; files = ordered; unticked = λ all. refl }
+pub plain_fit : (moment : ℕ) (items : List Item) → IsMoment moment → HaveBranches items → AllByRecursion (λ i. AreInOrder (λ f. f.path) (edited_files i.edits)) items → IsFit (given_by moment items)
+plain_fit moment items range apart ordered = record { moment = range; distinct = apart; files = ordered; unticked = λ all. refl }
 
 pub plain_given : (moment : ℕ) (items : List Item) → IsPlain (given_by moment items)
 plain_given moment items = record { files = λ i. refl; problem = λ i. refl; page = λ all. refl }
 
-pub given_here : (tells : Type 0) (files : List NamedFile) (base : List MarkedFile) (moment at : ℕ) (picked : List PickedFile) (items : List Item) → AreFit base picked → (tells → IsGathered files base picked) → AreDesired base picked items → at ≡ moment
+pub given_here : (tells : Type 0) (files : List NamedFile) (base : List MarkedFile) (moment at : ℕ) (picked : List PickedFile) (items : List Item) → AreFit base picked → (tells → IsGathered files base picked) → AreDesired base picked items → at ≡ moment → IsMoment moment
     → IsGiven tells files base moment (given_by at items)
-given_here tells files base moment at picked items fit gathered desired same = record {
+given_here tells files base moment at picked items fit gathered desired same range = record {
   picked = picked;
   fit = fit;
   gathered = gathered;
   desired = desired;
   at = same;
+  in_range = range;
   hourly = refl;
   concurrent = refl;
   branches = refl;
@@ -166,6 +205,7 @@ given_under one other files base moment g told is = record {
   gathered = λ t. is.gathered (told t);
   desired = is.desired;
   at = is.at;
+  in_range = is.in_range;
   hourly = is.hourly;
   concurrent = is.concurrent;
   branches = is.branches;

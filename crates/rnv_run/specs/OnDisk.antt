@@ -1,7 +1,8 @@
 -- What a run makes of the store on a disk.
-use Rattle.std.specs.Prelude.{◌≡◌, ◌≢◌, ◌≤◌, ℕ, List, [], ◌++◌, length, take, drop, map, Some, Result, Ok, Err, IfErr, IfOk, IsErrOf}
+use Rattle.std.specs.Prelude.{◌≡◌, ◌≢◌, ◌≤◌, ℕ, List, [], ◌++◌, length, take, drop, map, Some, Result, Ok, Err, IfErr, IfOk}
 use Rattle.rnv_base.specs.Files.{NamedFile}
-use Rattle.rnv_commands.specs.OnDisk.{IsDamaged, IsStored}
+use Rattle.rnv_commands.specs.OnDisk.{IsDamaged, IsStored, IsUnknownIn}
+use Rattle.rnv_disk.specs.Images.{Image}
 use Rattle.rnv_disk.specs.Stops.{Past}
 use Rattle.rnv_forge.specs.Store.{after, known}
 use Rattle.rnv_forge.specs.declared.repo.Repo.{Repo}
@@ -14,7 +15,8 @@ use Rattle.rnv_outcome.specs.Given.{Given}
 use Rattle.rnv_outcome.specs.Steps.{steps}
 use Rattle.rnv_payload.specs.Spelling.{spelling}
 use Rattle.rnv_plan.specs.declared.error.RunError.{RunError}
-use Rattle.rnv_plan.specs.declared.error.RunError.TheVariants.{Memory, FolderFault, DiskFault}
+use Rattle.rnv_plan.specs.declared.error.RunError.TheVariants.{Memory, FolderFault, DiskFault, UnknownRepo, NotBuilt, Limit, IndexRefused}
+use Rattle.rnv_store.specs.Start.{LeavesRefused}
 use Rattle.rnv_store.specs.Writes.{length_of}
 use Rattle.rnv_run.specs.declared.on_disk.RunRefusal.{RunRefusal}
 use Rattle.rnv_run.specs.declared.on_disk.RunRefusal.TheVariants.{NotAJournal, Ended}
@@ -64,6 +66,23 @@ pub record HasRepo (name : List ℕ) (limit : ℕ) (file : List ℕ) : Type 0 wh
   pub repo : Repo
   pub there : known name (after old []) ≡ Some repo
 
+-- What a refusal tells of a file alone: it is no store, or its store has no repository of that name, or has it, as behind every cause but
+-- want of memory and a fault of the disk.
+abbrev pub IsOfFile : List ℕ → ℕ → List ℕ → RunRefusal → Type 0
+IsOfFile name limit file (NotAJournal offset) = IsDamaged limit file offset
+IsOfFile name limit file (Ended Memory) = Unit {0}
+IsOfFile name limit file (Ended DiskFault) = Unit {0}
+IsOfFile name limit file (Ended UnknownRepo) = IsUnknownIn name limit file
+IsOfFile name limit file (Ended FolderFault) = HasRepo name limit file
+IsOfFile name limit file (Ended (NotBuilt path)) = HasRepo name limit file
+IsOfFile name limit file (Ended (Limit which number)) = HasRepo name limit file
+IsOfFile name limit file (Ended (IndexRefused path line)) = HasRepo name limit file
+
+-- What a run leaves of a disk whose bytes are no store: a file that is no journal is not written to, and a journal loses nothing.
+abbrev pub LeavesNoStore : ℕ → Image → Image → Past → Past → RunRefusal → Type 0
+LeavesNoStore limit old new before now (NotAJournal offset) = LeavesRefused limit old new before now (start_damaged offset)
+LeavesNoStore limit old new before now (Ended error) = Unit {0}
+
 -- why nothing is written over a file: it is no store, or the repository, its base or the journal's room are the cause
 abbrev pub IsNotRun : List NamedFile → List ℕ → ℕ → ℕ → List ℕ → RunRefusal → Type 0
 IsNotRun files name moment limit file (NotAJournal offset) = IsDamaged limit file offset
@@ -103,7 +122,8 @@ pub record HasFinished (limit : ℕ) (file : List ℕ) (entry exit : Past) (name
 
 -- A run over a disk. From any disk that has readings it begins one run or none. Where each reading on entry was left by an earlier
 -- run, whatever a stop leaves is so still, with no fewer of the writes, and a text tells that all of them stand. No refusal but that
--- of the disk has written anything. A fault of the folder comes only behind the start and the look-up of the repository.
+-- of the disk has written anything. What is no store, or lacks the repository, is told of the file alone, and every other cause but want
+-- of memory and a fault of the disk comes only behind the start and the look-up of the repository.
 pub record Runs (folder_tells : Type 0) (files : List NamedFile) (disk_tells : Type 0) (file : List ℕ) (entry exit : Past) (name : List ℕ) (moment : ℕ) (answer : Result (List ℕ) RunRefusal) : Type 0 where
   pub begins : LeavesOf 268435456 (IsRun folder_tells files name moment) entry exit
   pub stops : (start : List Write) (first : Repo) (g : Given) (least : ℕ) → folder_tells → IsBegun files name moment start first g
@@ -115,4 +135,4 @@ pub record Runs (folder_tells : Type 0) (files : List NamedFile) (disk_tells : T
   pub unwritten : IfErr answer (λ refusal. refusal ≢ Ended DiskFault → KeepsReadings 268435456 entry exit)
   pub done : disk_tells → IfOk answer (HasRun folder_tells files name moment 268435456 file entry exit)
   pub refused : folder_tells → disk_tells → IfErr answer (IsNotRun files name moment 268435456 file)
-  pub folder : disk_tells → IsErrOf answer (Ended FolderFault) → HasRepo name 268435456 file
+  pub file_told : disk_tells → IfErr answer (IsOfFile name 268435456 file)

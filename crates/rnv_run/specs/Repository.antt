@@ -35,6 +35,11 @@ pub record IsRunDone (tells : Type 0) (files : List NamedFile) (name : List ℕ)
   pub leaves : LeavesOutcome run.given name run.repo new
   pub prints : PrintsRun moment run.repo ws text
 
+-- the repository of a name is there behind some writes
+pub record IsThere (name : List ℕ) (old : List Write) : Type 0 where
+  pub repo : Repo
+  pub there : known name (after old []) ≡ Some repo
+
 -- ---- refusals
 
 -- a fact of the error, but for want of memory and faults of the folder and the disk
@@ -62,3 +67,14 @@ pub data IsRepoRefusal (files : List NamedFile) (name : List ℕ) (moment limit 
 pub data IsUnwanted (files : List NamedFile) (name : List ℕ) (old : List Write) (error : RunError) : Type 0 where
   no_repo : known name (after old []) ≡ None → error ≡ UnknownRepo → IsUnwanted files name old error
   no_items : (repo : Repo) → known name (after old []) ≡ Some repo → IsBaseRefusal files repo.files error → IsUnwanted files name old error
+
+-- What a refusal tells of the repository of a name behind the writes that stand: there is none, or it is there, as behind every cause but
+-- want of memory and a fault of the disk.
+abbrev pub IsOfRepo : List ℕ → List Write → RunError → Type 0
+IsOfRepo name old Memory = Unit {0}
+IsOfRepo name old DiskFault = Unit {0}
+IsOfRepo name old UnknownRepo = known name (after old []) ≡ None
+IsOfRepo name old FolderFault = IsThere name old
+IsOfRepo name old (NotBuilt path) = IsThere name old
+IsOfRepo name old (Limit which number) = IsThere name old
+IsOfRepo name old (IndexRefused file line) = IsThere name old

@@ -3,8 +3,10 @@
 #![tactic(auto)]
 
 mod on_disk;
+mod planning;
 mod preparing;
 mod printing;
+mod reporting;
 mod repository;
 mod running;
 #[cfg(test)]
@@ -12,7 +14,8 @@ mod tests;
 mod writing;
 
 pub use on_disk::{RunAnswer, RunRefusal, run_on};
+pub use planning::{PlannedRun, Summary, known_repo, plan_run};
 pub use printing::run_text;
 pub use repository::run_repo;
-pub use running::{known_repo, run_items};
+pub use running::do_run;
 pub use writing::write_all;

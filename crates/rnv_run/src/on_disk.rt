@@ -1,22 +1,23 @@
-ghost use Rattle.std.specs.Prelude.{◌≡◌, ◌≢◌, ◌⊎◌, ◌++◌, List as Items, [], None, false, length, IfErr, IfOk, IsErrOf};
+ghost use Rattle.std.specs.Prelude.{◌≡◌, ◌≢◌, ◌++◌, List as Items, [], false, length, IfErr, IfOk};
 ghost use Rattle.std.specs.List.{AllByRecursion};
 ghost use Rattle.rnv_base.specs.Causes.{FaultsBy};
 ghost use Rattle.rnv_base.specs.Moment.{IsMoment};
-ghost use Rattle.rnv_forge.specs.Store.{ArePermitted, after, known};
+ghost use Rattle.rnv_forge.specs.Store.{ArePermitted};
 ghost use Rattle.rnv_forge.specs.WellFormed.{IsWellFormed};
 ghost use Rattle.rnv_forge.specs.declared.repo.Repo.{Repo as Record};
 ghost use Rattle.rnv_forge.specs.declared.write.Write.{Write as Change};
 ghost use Rattle.rnv_desired.specs.Givens.{IsGiven};
 ghost use Rattle.rnv_outcome.specs.Given.{Given};
+ghost use Rattle.rnv_journal.specs.Readings.{KeepsOne};
 ghost use Rattle.rnv_store.specs.Forge.{LeavesWrites};
 ghost use Rattle.rnv_run.specs.declared.on_disk.RunRefusal.TheVariants.{Ended as ended_by};
 ghost use Rattle.rnv_run.specs.Front.{IsFront};
-ghost use Rattle.rnv_run.specs.OnDisk.{IsFinished, IsStartRefusal, LeavesRun, Runs, ended};
+ghost use Rattle.rnv_run.specs.OnDisk.{IsFinished, IsStartRefusal, LeavesNoStore, LeavesRun, Runs, ended};
 ghost use Rattle.rnv_run.specs.Begun.{BeginsOrStays};
-ghost use Rattle.rnv_run.specs.Repository.{IfCaused, IsRepoRefusal, IsRun};
+ghost use Rattle.rnv_run.specs.Repository.{IfCaused, IsOfRepo, IsRepoRefusal, IsRun};
 ghost use Rattle.rnv_run.specs.Run.{IsStoppedRun};
 
-use crate::run_repo;
+use crate::reporting::report_run;
 use rnv_base::{Folder, List, Text};
 use rnv_disk::Disk;
 use rnv_journal::StartError;
@@ -94,8 +95,9 @@ fn run_started<D: Disk, O: Folder>(
     requires moment { IsMoment moment }
     ensures any_moment { BeginsOrStays 268435456 (IsRun O.tells (O.files folder.old) name.now moment) (⟦<JournalForge<D> as Forge>⟧.past forge) (D.past result.disk) (⟦<JournalForge<D> as Forge>⟧.writes forge) }
     ensures unwritten { IfErr result.text (λ error. error ≢ RunError.DiskFault → LeavesWrites 268435456 (⟦<JournalForge<D> as Forge>⟧.past forge) (D.past result.disk) (λ ws. ws ≡ ⟦<JournalForge<D> as Forge>⟧.writes forge)) }
+    ensures other { KeepsOne (⟦<JournalForge<D> as Forge>⟧.past forge) (D.past result.disk) }
     ensures ran { IfOk result.text (LeavesRun O.tells (O.files folder.old) name.now moment 268435456 (⟦<JournalForge<D> as Forge>⟧.writes forge) (D.past result.disk)) }
-    ensures unknown { known name.now (after (⟦<JournalForge<D> as Forge>⟧.writes forge) []) ≡ None → IsErrOf result.text RunError.UnknownRepo ⊎ IsErrOf result.text RunError.Memory }
+    ensures known { IfErr result.text (IsOfRepo name.now (⟦<JournalForge<D> as Forge>⟧.writes forge)) }
     ensures refused { O.tells → IfErr result.text (IfCaused (IsRepoRefusal (O.files folder.old) name.now moment 268435456 (⟦<JournalForge<D> as Forge>⟧.writes forge))) }
     ensures same { O.tells → (O.files folder.new ≡ O.files folder.old) }
     ensures folder_cause { FaultsBy (O.faults folder.old) (O.faults folder.new) result.text RunError.FolderFault }
@@ -108,7 +110,7 @@ fn run_started<D: Disk, O: Folder>(
         → LeavesWrites 268435456 (⟦<JournalForge<D> as Forge>⟧.past forge) (D.past result.disk) (IsFront start (us ++ vs) (length us)) }
 {
     let mut forge = forge;
-    let text = run_repo(alloc, &mut forge, folder, name, moment);
+    let text = report_run(alloc, &mut forge, folder, name, moment);
     Ran {
         text,
         disk: forge.into_disk(),
@@ -116,8 +118,9 @@ fn run_started<D: Disk, O: Folder>(
 }
 
 /// Runs over a repository of the store of a disk, whose journal has at most 268435456 bytes, as
-/// `run_repo` does. Before its refusals: `DiskFault` only where the disk's count of faults rose;
-/// `NotAJournal` where its bytes are no store, with the offset. From any disk that has readings, also
+/// `run_repo` does, and answers the text of the run. Before its refusals: `DiskFault` only where the disk's
+/// count of faults rose; `NotAJournal` exactly where its bytes are no store, with the offset, and then they
+/// stay. File `One` is left alone. From any disk that has readings, also
 /// where an import was stopped, it begins one run, behind one of these, or none. However often such a run is stopped,
 /// at whatever moment, and given again with the same folder and moment, each stop leaves the writes
 /// from before the first run and the first of its writes, never fewer than before, and the run that
@@ -130,6 +133,9 @@ pub fn run_on<D: Disk, O: Folder>(
     moment: u64,
 ) -> RunAnswer<D>
     requires { IsMoment moment }
+    // File `One` is left alone, and what is no store is not written over.
+    ensures other { KeepsOne (D.past disk) (D.past result.disk) }
+    ensures left { D.tells → IfErr result.text (LeavesNoStore 268435456 (D.seen disk) (D.seen result.disk) (D.past disk) (D.past result.disk)) }
     ensures runs { Runs O.tells (O.files folder.old) D.tells (D.seen disk).zero (D.past disk) (D.past result.disk) name.now moment result.text }
     ensures same { O.tells → (O.files folder.new ≡ O.files folder.old) }
     ensures folder_cause { FaultsBy (O.faults folder.old) (O.faults folder.new) result.text (ended_by RunError.FolderFault) }

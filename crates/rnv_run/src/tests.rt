@@ -1,6 +1,7 @@
 ghost use Rattle.std.specs.Prelude.{◌≡◌, false, IfOk};
 
-use crate::{run_repo, run_text};
+use crate::reporting::report_run;
+use crate::{Summary, run_repo, run_text};
 use rnv_base::{Bytes, List, MemFile, MemFolder, Text, name_ok};
 use rnv_commands::import_base;
 use rnv_disk::{Content, FileNo, MemDisk};
@@ -75,7 +76,7 @@ fn run(alloc: Global, zero: &[u8], failing: &[u64]) -> Result<(List<u8>, Vec<u8>
     let name = Text::copied(alloc, NAME)?;
     let mut folder = folder(alloc)?;
     let mut forge = started(alloc, zero, failing)?;
-    let text = match run_repo(alloc, &mut forge, &mut folder, &name, MOMENT) {
+    let text = match report_run(alloc, &mut forge, &mut folder, &name, MOMENT) {
         Ok(text) => text,
         Err(_) => List::empty(alloc),
     };
@@ -100,6 +101,22 @@ fn writes_once(rt: HostRuntime) -> Result<(), Fail> {
     let want = format!(in alloc; "{NOW}done 0 writes\n")?;
     assert!(rt; text.as_slice() == want.as_bytes());
     assert!(rt; again.as_slice() == after.as_slice());
+    Ok(())
+}
+
+// A run answers its moment and its writes.
+#[test]
+fn answers_its_writes(rt: HostRuntime) -> Result<(), Fail> {
+    let alloc = rt.alloc();
+    let name = Text::copied(alloc, NAME)?;
+    let mut folder = folder(alloc)?;
+    let mut forge = started(alloc, stored(alloc)?.as_slice(), &[])?;
+    let Ok(Summary { moment, writes }) = run_repo(alloc, &mut forge, &mut folder, &name, MOMENT)
+    else {
+        return Err("refused".into());
+    };
+    assert!(rt; moment == MOMENT);
+    assert!(rt; writes.len() == 7);
     Ok(())
 }
 

@@ -1,6 +1,7 @@
 use Rattle.std.proofs.Common.{inl, inr, refl}
+use Rattle.rnv_journal.proofs.Ones.{one_self}
 use Rattle.rnv_commands.proofs.Stops.{keeps_same}
-use Rattle.rnv_app.proofs.Answers.{none_of}
+use Rattle.rnv_app.proofs.Answers.{none_left, none_of, plan_left}
 use Rattle.rnv_app.proofs.top.answer_to.Goals as goal
 
 pub returns-in-Ok-Plan-clause-answered : goal.returns-in-Ok-Plan-clause-answered
@@ -19,3 +20,15 @@ returns-in-Err-clause-answered g c =
 
 pub returns-in-Ok-Run-clause-answered : goal.returns-in-Ok-Run-clause-answered
 returns-in-Ok-Run-clause-answered g c = inr (inr (inr (inl c.run_for.ensures.answered)))
+
+pub returns-in-Ok-Plan-clause-other : goal.returns-in-Ok-Plan-clause-other
+returns-in-Ok-Plan-clause-other g c = one_self _
+
+pub returns-in-Err-clause-other : goal.returns-in-Err-clause-other
+returns-in-Err-clause-other g c = one_self _
+
+pub returns-in-Ok-Plan-clause-left : goal.returns-in-Ok-Plan-clause-left
+returns-in-Ok-Plan-clause-left g c = λ t. plan_left _ _ _ _ _ c.plan_for.ensures.plain
+
+pub returns-in-Err-clause-left : goal.returns-in-Err-clause-left
+returns-in-Err-clause-left g c = λ t. none_left _ _ _ _ c.in-Err.error _ c.not_read.ensures.usage c.not_read.ensures.memory

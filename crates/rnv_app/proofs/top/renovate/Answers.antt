@@ -1,6 +1,7 @@
 use Rattle.rnv_base.specs.Causes.{Rose}
-use Rattle.rnv_app.proofs.Ends.{disk_at, error_of, folder_at, part_at, refused_line, run_complete, run_damaged, run_exactly, status_of}
-use Rattle.rnv_app.proofs.Answers.{causes_is, complete_is, exactly_is, import_is, in_part_is, named_is, plan_same, printed_is, run_is, show_is, usage_is}
+use Rattle.rnv_app.proofs.Ends.{damaged_at, disk_at, error_of, folder_at, part_at, refused_line, run_complete, run_exactly, status_of}
+use Rattle.rnv_app.proofs.Answers.{causes_is, complete_is, exactly_is, import_is, in_part_is, named_is, plan_same, printed_is, run_is, show_is, store_damaged, usage_is, usage_same}
+use Rattle.rnv_app.proofs.Stores.{import_complete, import_exactly, left_at, run_unknown, show_complete, show_exactly}
 use Rattle.rnv_app.proofs.top.renovate.Goals as goal
 
 pub returns-clause-statuses : goal.returns-clause-statuses
@@ -61,6 +62,36 @@ pub returns-clause-run_exactly : goal.returns-clause-run_exactly
 returns-clause-run_exactly g c = λ repo now asked t d error cause.
     run_exactly _ repo now _ _ _ _ _ _ (run_is _ _ _ c.answer_to-text.ensures.answered _ _ _ _ _ _ c.tell-code.ensures.told repo now asked) t d error cause
 
-pub returns-clause-run_damaged : goal.returns-clause-run_damaged
-returns-clause-run_damaged g c = λ repo now asked t d offset damaged.
-    run_damaged _ repo now _ _ _ _ _ _ (run_is _ _ _ c.answer_to-text.ensures.answered _ _ _ _ _ _ c.tell-code.ensures.told repo now asked) t d offset damaged
+pub returns-clause-damaged : goal.returns-clause-damaged
+returns-clause-damaged g c = λ d repo asked offset damaged. store_damaged _ _ _ c.answer_to-text.ensures.answered _ _ _ _ _ _ c.tell-code.ensures.told d repo asked offset damaged
+
+pub returns-clause-import_complete : goal.returns-clause-import_complete
+returns-clause-import_complete g c = λ repo asked t d free.
+    import_complete _ repo _ _ _ _ _ _ (import_is _ _ _ c.answer_to-text.ensures.answered _ _ _ _ _ _ c.tell-code.ensures.told repo asked) d t (Rose _ _) (Rose _ _) free
+    (λ e. c.answer_to-text.ensures.folder_cause.failed (error_of _ _ (folder_at _ _ _ _ _ _ _ c.tell-code.ensures.told e)))
+    (λ e. c.answer_to-text.ensures.disk_cause.failed (error_of _ _ (disk_at _ _ _ _ _ _ _ c.tell-code.ensures.told e)))
+
+pub returns-clause-import_exactly : goal.returns-clause-import_exactly
+returns-clause-import_exactly g c = λ repo asked t d error cause.
+    import_exactly _ repo _ _ _ _ _ _ (import_is _ _ _ c.answer_to-text.ensures.answered _ _ _ _ _ _ c.tell-code.ensures.told repo asked) d t error cause
+
+pub returns-clause-show_complete : goal.returns-clause-show_complete
+returns-clause-show_complete g c = λ repo asked d free.
+    show_complete _ repo _ _ _ _ _ _ (show_is _ _ _ c.answer_to-text.ensures.answered _ _ _ _ _ _ c.tell-code.ensures.told repo asked) d (Rose _ _) free
+    (λ e. c.answer_to-text.ensures.disk_cause.failed (error_of _ _ (disk_at _ _ _ _ _ _ _ c.tell-code.ensures.told e)))
+
+pub returns-clause-show_exactly : goal.returns-clause-show_exactly
+returns-clause-show_exactly g c = λ repo asked d lacks.
+    show_exactly _ repo _ _ _ _ _ _ (show_is _ _ _ c.answer_to-text.ensures.answered _ _ _ _ _ _ c.tell-code.ensures.told repo asked) d lacks
+
+pub returns-clause-run_unknown : goal.returns-clause-run_unknown
+returns-clause-run_unknown g c = λ repo now asked d lacks.
+    run_unknown _ repo _ _ _ _ _ _ now (run_is _ _ _ c.answer_to-text.ensures.answered _ _ _ _ _ _ c.tell-code.ensures.told repo now asked) d lacks
+
+pub returns-clause-usage_alone : goal.returns-clause-usage_alone
+returns-clause-usage_alone g c = usage_same _ _ _ c.answer_to-text.ensures.answered _ _ _ _ _ _ c.tell-code.ensures.told
+
+pub returns-clause-left : goal.returns-clause-left
+returns-clause-left g c = λ d e.
+    let at = damaged_at _ _ _ _ _ _ _ c.tell-code.ensures.told e in
+    left_at _ _ _ _ _ at.0 at.1 (c.answer_to-text.ensures.left d)

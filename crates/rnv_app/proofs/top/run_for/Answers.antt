@@ -1,4 +1,5 @@
 use Rattle.rnv_app.proofs.Answers.{run_disk_of, run_folder_of}
+use Rattle.rnv_app.proofs.Stores.{running_left}
 use Rattle.rnv_app.proofs.top.run_for.Goals as goal
 
 pub returns-clause-folder_cause : goal.returns-clause-folder_cause
@@ -22,3 +23,6 @@ returns-clause-answered g c = record {
   is = c.running.ensures;
   runs = c.run_on-text.ensures.runs;
 }
+
+pub returns-clause-left : goal.returns-clause-left
+returns-clause-left g c = λ t. running_left _ _ _ _ _ _ c.running.ensures (c.run_on-text.ensures.left t)

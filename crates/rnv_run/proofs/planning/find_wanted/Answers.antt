@@ -1,10 +1,9 @@
-use Rattle.std.proofs.Common.{◌≡◌, ◌∙◌, ℕ, List, [], None, Some, refl, subst, sym, ap, arith}
-use Rattle.rnv_forge.specs.declared.repo.Repo.{Repo}
+use Rattle.std.proofs.Common.{◌≡◌, ℕ, List, [], Some, subst, arith}
 use Rattle.rnv_forge.specs.Store.{after, known}
 use Rattle.rnv_plan.proofs.Told.{told-weaker}
 use Rattle.rnv_run.specs.Repository.{IsBaseRefusal, IsUnwanted, no_items}
-use Rattle.rnv_run.proofs.Wanted.{unknown_disk, unknown_first, unknown_folder, unknown_told}
-use Rattle.rnv_run.proofs.repository.find_wanted.Goals as goal
+use Rattle.rnv_run.proofs.Wanted.{not_of_repo, unknown_disk, unknown_folder, unknown_of, unknown_told}
+use Rattle.rnv_run.proofs.planning.find_wanted.Goals as goal
 
 pub returns-in-Ok-clause-refused : goal.returns-in-Ok-clause-refused
 returns-in-Ok-clause-refused g c = λ t.
@@ -25,11 +24,10 @@ returns-in-Err-clause-cause g c = record {
   failed = λ is. absurd (unknown_folder c.args.name.now (g.F.Forge.writes c.args.forge.now) c.in-Err.error c.in-Err.ensures.refused (cc is));
 }
 
-pub returns-in-Ok-clause-unknown : goal.returns-in-Ok-clause-unknown
-returns-in-Ok-clause-unknown g c none =
+pub returns-in-Ok-clause-known : goal.returns-in-Ok-clause-known
+returns-in-Ok-clause-known g c =
     let ws = g.F.Forge.writes c.args.forge.now in
-    let both : None ≡ Some c.in-Ok.repo = sym none ∙ ap (λ (n : List ℕ). known n (after ws [])) (sym c.in-Ok.ensures.named) ∙ c.in-Ok.ensures.there in
-    absurd cc
+    not_of_repo c.args.name.now ws c.in-Ok.repo (subst (λ (n : List ℕ). known n (after ws []) ≡ Some c.in-Ok.repo) c.in-Ok.ensures.named c.in-Ok.ensures.there) c.given_of.result c.given_of.ensures.unknown
 
-pub returns-in-Err-clause-unknown : goal.returns-in-Err-clause-unknown
-returns-in-Err-clause-unknown g c none = unknown_first c.args.name.now (g.F.Forge.writes c.args.forge.now) _ c.in-Err.error refl c.in-Err.ensures.refused
+pub returns-in-Err-clause-known : goal.returns-in-Err-clause-known
+returns-in-Err-clause-known g c = unknown_of c.args.name.now (g.F.Forge.writes c.args.forge.now) c.in-Err.error c.in-Err.ensures.refused
