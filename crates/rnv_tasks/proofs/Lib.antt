@@ -1,0 +1,5 @@
+pub mod Ends
+pub mod Calls
+pub mod Treats
+pub mod Each
+pub mod Whole

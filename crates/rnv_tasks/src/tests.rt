@@ -1,0 +1,257 @@
+use crate::{MemSpawner, SteadySpawner, TaskAnswer, TaskCall, TaskEnd, TaskError, tasked};
+use rnv_base::{Bytes, List, Text};
+use rnv_forge::EditedFile;
+use std::alloc::{AllocError, Global};
+use std::convert::{AsSlice, AsStr};
+use std::test::Fail;
+
+// The texts of a list with a `;` behind each.
+fn texts(alloc: Global, list: &str) -> Result<List<Text>, AllocError> {
+    let mut texts = List::empty(alloc);
+    for text in list.split_terminator(';') {
+        texts.push(Text::copied(alloc, text)?)?;
+    }
+    Ok(texts)
+}
+
+fn bytes(alloc: Global, text: &str) -> Result<Bytes, AllocError> {
+    Ok(Bytes::new(Vec::from_slice(alloc, text.as_bytes())?))
+}
+
+// Files with a `;` behind each: path and bytes.
+fn files(alloc: Global, list: &str) -> Result<List<EditedFile>, Fail> {
+    let mut files = List::empty(alloc);
+    for file in list.split_terminator(';') {
+        let (path, text) = file.split_once(':').ok_or("no bytes")?;
+        files.push(EditedFile {
+            path: Text::copied(alloc, path)?,
+            bytes: bytes(alloc, text)?,
+        })?;
+    }
+    Ok(files)
+}
+
+// Answers with a `;` behind each: words, input, status, output.
+fn answers(alloc: Global, list: &str) -> Result<List<TaskAnswer>, Fail> {
+    let mut answers = List::empty(alloc);
+    for answer in list.split_terminator(';') {
+        let mut fields = answer.split(':');
+        let mut words = List::empty(alloc);
+        for word in fields.next().ok_or("no words")?.split(' ') {
+            words.push(Text::copied(alloc, word)?)?;
+        }
+        let input = bytes(alloc, fields.next().ok_or("no input")?)?;
+        let status = fields
+            .next()
+            .ok_or("no status")?
+            .parse()
+            .map_err(|_| "no status")?;
+        let output = bytes(alloc, fields.next().ok_or("no output")?)?;
+        answers.push(TaskAnswer {
+            call: TaskCall { words, input },
+            end: TaskEnd { status, output },
+        })?;
+    }
+    Ok(answers)
+}
+
+// Files as they stand in a table.
+fn shown_files(alloc: Global, files: &[EditedFile]) -> Result<String, Fail> {
+    let mut shown = String::new(alloc);
+    for file in files {
+        shown.push_str(file.path.as_str())?;
+        shown.push_str(":")?;
+        shown.push_str(std::str::from_utf8(file.bytes.as_slice()).map_err(|_| "no text")?)?;
+        shown.push_str(";")?;
+    }
+    Ok(shown)
+}
+
+// Calls as they stand in a table: words and input.
+fn shown_calls(alloc: Global, calls: &[TaskCall]) -> Result<String, Fail> {
+    let mut shown = String::new(alloc);
+    for call in calls {
+        for word in call.words.as_slice() {
+            shown.push_str(word.as_str())?;
+            shown.push_str(" ")?;
+        }
+        shown.push_str(":")?;
+        shown.push_str(std::str::from_utf8(call.input.as_slice()).map_err(|_| "no text")?)?;
+        shown.push_str(";")?;
+    }
+    Ok(shown)
+}
+
+// The operator's list, the commands, what programs give, the files, and then what the files become, the
+// problem and the calls.
+const ROWS: [[&str; 7]; 10] = [
+    [
+        "sort;",
+        "sort;",
+        "sort:b=1.1.0\na=2.0.0\n:0:a=2.0.0\nb=1.1.0\n;",
+        "versions.txt:b=1.1.0\na=2.0.0\n;",
+        "versions.txt:a=2.0.0\nb=1.1.0\n;",
+        "",
+        "sort :b=1.1.0\na=2.0.0\n;",
+    ],
+    // A status other than 0, also that of a program without an answer.
+    [
+        "sort;",
+        "sort;",
+        "sort:b:1:a;",
+        "versions.txt:b;",
+        "versions.txt:b;",
+        "versions.txt: sort ended with 1",
+        "sort :b;",
+    ],
+    [
+        "sort;",
+        "sort;",
+        "",
+        "a:b;",
+        "a:b;",
+        "a: sort ended with 255",
+        "sort :b;",
+    ],
+    [
+        "sort;",
+        "sort;",
+        "sort:b:0:;",
+        "a:b;",
+        "a:;",
+        "",
+        "sort :b;",
+    ],
+    // Each command works on what the one before it gave, and nothing is kept where a later one fails.
+    [
+        "up;down;",
+        "up;down;",
+        "up:1:0:2;down:2:0:3;",
+        "a:1;",
+        "a:3;",
+        "",
+        "up :1;down :2;",
+    ],
+    [
+        "up;",
+        "up;down;",
+        "up:1:0:2;down:2:0:3;",
+        "a:1;",
+        "a:1;",
+        "a: down is not allowed",
+        "up :1;",
+    ],
+    // The operator's list has whole texts; words are what stands between spaces.
+    [
+        "sort -r;sort  -r ;",
+        "sort  -r ;sort -r;",
+        "sort -r:1:0:2;sort -r:2:0:1;",
+        "a:1;",
+        "a:1;",
+        "",
+        "sort -r :1;sort -r :2;",
+    ],
+    [
+        "sort;",
+        "sort -r;",
+        "",
+        "a:1;",
+        "a:1;",
+        "a: sort -r is not allowed",
+        "",
+    ],
+    [" ;;", " ;", "", "a:1;", "a:1;", "a:   is not allowed", ""],
+    // Each file by itself, in order; problems stand in one text.
+    [
+        "up;",
+        "up;",
+        "up:1:0:2;up:2:3:;",
+        "a:1;b:2;c:1;d:4;",
+        "a:2;b:2;c:2;d:4;",
+        "b: up ended with 3; d: up ended with 255",
+        "up :1;up :2;up :1;up :4;",
+    ],
+];
+
+#[test]
+fn runs_tasks(rt: HostRuntime) -> Result<(), Fail> {
+    let alloc = rt.alloc();
+    for [allowed, commands, given, edited, want, problem, calls] in ROWS {
+        let mut spawner = SteadySpawner::new(alloc, answers(alloc, given)?);
+        let allowed = texts(alloc, allowed)?;
+        let commands = texts(alloc, commands)?;
+        let files = files(alloc, edited)?;
+        let done = tasked(alloc, &mut spawner, &allowed, &commands, &files).map_err(|_| "fault")?;
+        let shown = shown_files(alloc, done.files.as_slice())?;
+        assert_eq!(rt; shown.as_str(), want);
+        assert_eq!(rt; done.problem.as_str(), problem);
+        let shown = shown_calls(alloc, spawner.calls())?;
+        assert_eq!(rt; shown.as_str(), calls);
+    }
+    Ok(())
+}
+
+// As many bytes.
+fn many(alloc: Global, count: usize) -> Result<Bytes, AllocError> {
+    Ok(Bytes::new(vec![in alloc; b'a'; count]?))
+}
+
+// Of a file and an output at their limits and above: the bytes of the file in the end, and the problem.
+#[test]
+fn keeps_limits(rt: HostRuntime) -> Result<(), Fail> {
+    let alloc = rt.alloc();
+    for (size, output, want, problem) in [
+        (32_768, 1_048_576, 1_048_576, ""),
+        (32_769, 1, 32_769, "a: too large for tasks"),
+        (1, 1_048_577, 1, "a: up gave too much"),
+    ] {
+        let mut given = List::empty(alloc);
+        given.push(TaskAnswer {
+            call: TaskCall {
+                words: texts(alloc, "up;")?,
+                input: many(alloc, size)?,
+            },
+            end: TaskEnd {
+                status: 0,
+                output: many(alloc, output)?,
+            },
+        })?;
+        let mut spawner = SteadySpawner::new(alloc, given);
+        let mut files = List::empty(alloc);
+        files.push(EditedFile {
+            path: Text::copied(alloc, "a")?,
+            bytes: many(alloc, size)?,
+        })?;
+        let up = texts(alloc, "up;")?;
+        let done = tasked(alloc, &mut spawner, &up, &up, &files).map_err(|_| "fault")?;
+        for file in done.files.as_slice() {
+            assert_eq!(rt; file.bytes.as_slice().len(), want);
+        }
+        assert_eq!(rt; done.problem.as_str(), problem);
+        let none = List::empty(alloc);
+        let idle = tasked(alloc, &mut spawner, &up, &none, &files).map_err(|_| "fault")?;
+        assert_eq!(rt; idle.problem.as_str(), "");
+    }
+    Ok(())
+}
+
+// A spawner whose second call fails: the tasks of the second branch come to no end.
+#[test]
+fn answers_faults(rt: HostRuntime) -> Result<(), Fail> {
+    let alloc = rt.alloc();
+    let failing = List::new(Vec::from_array(alloc, [1])?);
+    let mut spawner = MemSpawner::new(alloc, answers(alloc, "up:1:0:2;")?, failing);
+    let up = texts(alloc, "up;")?;
+    let files = files(alloc, "a:1;")?;
+    let done = tasked(alloc, &mut spawner, &up, &up, &files).map_err(|_| "fault")?;
+    assert_eq!(rt; shown_files(alloc, done.files.as_slice())?.as_str(), "a:2;");
+    match tasked(alloc, &mut spawner, &up, &up, &files) {
+        Err(error) => assert_eq!(rt; error, TaskError::TaskFault),
+        Ok(_) => panic!(rt; "no fault"),
+    }
+    assert_eq!(rt;
+        shown_calls(alloc, spawner.calls())?.as_str(),
+        "up :1;up :1;"
+    );
+    Ok(())
+}
