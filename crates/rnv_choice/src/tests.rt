@@ -397,9 +397,8 @@ fn asks_for_few(rt: HostRuntime) -> Result<(), Fail> {
     rules.update.age = Some(50);
     let dep = dep(alloc, SourceKind::Npm, "1.0.0")?;
     let picked = updates(alloc, &dep, Some(&list), &rules, 100)?;
-    let update = picked.updates.as_slice()[0].share(alloc)?;
-    assert_eq!(rt; update.new_version.as_str(), "1.9999.0");
-    assert_eq!(rt; picked.updates.len(), 1);
+    let found = shown(alloc, &picked)?;
+    assert_eq!(rt; found.as_str(), "1.0.0 1.9999.0[1.9999.0]Minor");
     assert_eq!(rt; rules.asked.get(), 1);
     Ok(())
 }
