@@ -70,7 +70,7 @@ module _ (held : Held) where
         so_far = begun;
         at_rest = here;
         reads = reads_first held.limit past (IsFront held 0) each;
-        since = λ k le. record { moment = past.moment; since = omega arith; so_far = omega arith; reads = λ c left. subst (λ (n : ℕ). EachReading held.limit (IsFront held n) c.zero) (omega (arith, le)) (each c left) };
+        since = λ k le. record { moment = past.moment; since = omega arith; so_far = omega arith; reads = λ c left. subst (λ (n : ℕ). EachReading held.limit (IsFront held n) c) (omega (arith, le)) (each c left) };
       }
     where
       begun : held ≡ after held 0

@@ -43,14 +43,14 @@ module _ (tells : Type 0) (limit : ℕ) (ps : List (List ℕ)) (p : List ℕ) (o
   -- the first write alone
   pub first_reads : LeavesOnly old mid (IsTornFrom old (end_of ps + 1) (length (body p ++ 0 ∷ []))) → ReadsOnly limit old mid (OldOrNew ps p)
   first_reads run =
-      widened old mid (λ c. EachReading limit (λ list. list ≡ ps) c.zero) (λ c. EachReading limit (OldOrNew ps p) c.zero)
+      widened old mid (λ c. EachReading limit (λ list. list ≡ ps) c) (λ c. EachReading limit (OldOrNew ps p) c)
       (λ c each. record { some = each.some; each = λ list reading. inl (each.each list reading) }) (behind_reads limit ps old mid _ rest run)
 
   -- both
   pub both_read : LeavesOnly old mid (IsTornFrom old (end_of ps + 1) (length (body p ++ 0 ∷ []))) → IsDurable Zero mid (put (end_of ps + 1) (body p ++ 0 ∷ []) seen.zero)
       → counted (ps ++ p ∷ []) ≤ limit → LeavesOnly mid new (IsTornFrom mid (end_of ps) 1) → ReadsOnly limit old new (OldOrNew ps p)
   both_read first durable within second =
-      joined old mid new (λ c. EachReading limit (OldOrNew ps p) c.zero) (first_reads first)
+      joined old mid new (λ c. EachReading limit (OldOrNew ps p) c) (first_reads first)
       (opening_reads limit ps mid new p behind (written_durable durable) within second)
 
   -- and then the disk is at rest at the longer list

@@ -1,6 +1,6 @@
 -- Small files, byte by byte, and what they are.
 use Rattle.std.proofs.Common.{◌≡◌, ◌<◌, inl, inr, ℕ, ◌+◌, List, [], ◌∷◌, ◌++◌, length, refl, arith}
-use Rattle.rnv_journal.specs.File.{four_bytes, head, made, body, spelled, counted, IsImage, IsInMaking, IsWrongAt}
+use Rattle.rnv_journal.specs.File.{four_bytes, head, made, body, spelled, counted, IsImage, IsInMaking, IsFileWrongAt}
 use Rattle.rnv_journal.proofs.Numbers.{entry_number}
 
 -- the head: 01524e56464f52474500000001
@@ -30,7 +30,7 @@ pub counted_whole : (payload : List ℕ) → length payload ≡ 11 → counted (
 counted_whole payload eleven = omega arith
 
 -- 01524e5646
-pub five_bytes : IsWrongAt 30 (1 ∷ 82 ∷ 78 ∷ 86 ∷ 70 ∷ []) 0
+pub five_bytes : IsFileWrongAt 30 (1 ∷ 82 ∷ 78 ∷ 86 ∷ 70 ∷ []) 0
 unfolding head made
 five_bytes = inl (record { unmade = unmade; other = λ e. cc }, refl)
   where
@@ -40,7 +40,7 @@ five_bytes = inl (record { unmade = unmade; other = λ e. cc }, refl)
     unmade (inr (inr all)) = all.first refl
 
 -- the head alone
-pub no_gate : IsWrongAt 30 front 13
+pub no_gate : IsFileWrongAt 30 front 13
 unfolding head
 no_gate = inr (record {
   payloads = [];
@@ -52,7 +52,7 @@ no_gate = inr (record {
 })
 
 -- an open gate and the length 16777216, and nothing more
-pub no_payload : IsWrongAt 30 (front ++ 1 ∷ 1 ∷ 0 ∷ 0 ∷ 0 ∷ []) 13
+pub no_payload : IsFileWrongAt 30 (front ++ 1 ∷ 1 ∷ 0 ∷ 0 ∷ 0 ∷ []) 13
 unfolding head four_bytes
 no_payload = inr (record {
   payloads = [];
@@ -69,7 +69,7 @@ no_payload = inr (record {
         omega arith
 
 -- the entry `abc`, and no gate behind it
-pub no_last_gate : IsWrongAt 30 (front ++ 1 ∷ 0 ∷ 0 ∷ 0 ∷ 3 ∷ 97 ∷ 98 ∷ 99 ∷ []) 21
+pub no_last_gate : IsFileWrongAt 30 (front ++ 1 ∷ 0 ∷ 0 ∷ 0 ∷ 3 ∷ 97 ∷ 98 ∷ 99 ∷ []) 21
 unfolding head four_bytes
 no_last_gate = inr (record {
   payloads = (97 ∷ 98 ∷ 99 ∷ []) ∷ [];
@@ -81,7 +81,7 @@ no_last_gate = inr (record {
 })
 
 -- version 3 and a closed gate
-pub version_three : IsWrongAt 30 (1 ∷ 82 ∷ 78 ∷ 86 ∷ 70 ∷ 79 ∷ 82 ∷ 71 ∷ 69 ∷ 0 ∷ 0 ∷ 0 ∷ 3 ∷ 0 ∷ []) 0
+pub version_three : IsFileWrongAt 30 (1 ∷ 82 ∷ 78 ∷ 86 ∷ 70 ∷ 79 ∷ 82 ∷ 71 ∷ 69 ∷ 0 ∷ 0 ∷ 0 ∷ 3 ∷ 0 ∷ []) 0
 unfolding head
 version_three = inl (record { unmade = unmade; other = λ e. cc }, refl)
   where
@@ -96,7 +96,7 @@ zeros = 0 ∷ 0 ∷ 0 ∷ 0 ∷ 0 ∷ 0 ∷ 0 ∷ 0 ∷ 0 ∷ 0 ∷ 0 ∷ 0 ∷ 
 pub fourteen_zeros : IsInMaking zeros
 fourteen_zeros = inr (inl (record { first = refl; short = omega arith }))
 
-pub fifteen_zeros : IsWrongAt 30 (0 ∷ zeros) 0
+pub fifteen_zeros : IsFileWrongAt 30 (0 ∷ zeros) 0
 unfolding head made
 fifteen_zeros = inl (record { unmade = unmade; other = λ e. cc }, refl)
   where

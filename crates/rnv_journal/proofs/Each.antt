@@ -3,7 +3,7 @@ use Rattle.std.proofs.Common.{◌≡◌, ◌≢◌, ◌≤◌, ◌⊎◌, inl, i
 use Rattle.std.proofs.lemmas.Bool.{cases_eq}
 use Rattle.std.proofs.lemmas.List.{append_cancel_left}
 use Rattle.rnv_journal.specs.File.{head, body, entries, spelled, counted, IsImage, IsInMaking}
-use Rattle.rnv_journal.specs.Reading.{IsSpelled, ReadsAs, IsTorn, IsReading, IsClosed, EachReading}
+use Rattle.rnv_journal.specs.FileReading.{IsSpelled, FileReadsAs, IsTorn, IsFileReading, IsClosed, EachFileReading}
 use Rattle.rnv_journal.proofs.Spelling.{one_list}
 use Rattle.rnv_journal.proofs.Wrong.{image_made}
 use Rattle.rnv_journal.proofs.Founds.{entries_push}
@@ -33,19 +33,19 @@ spelled_push ps p g r =
 
 module _ (limit : ℕ) (P : List (List ℕ) → Type 0) where
   -- a file in making reads as the empty list
-  pub making_each : (file : List ℕ) → IsInMaking file → P [] → EachReading limit P file
+  pub making_each : (file : List ℕ) → IsInMaking file → P [] → EachFileReading limit P file
   making_each file making here = record {
     some = record { image = ([], inl (making, refl)); opened = λ opened torn. absurd (image_made limit file _ _ _ torn.image making) };
     each = each;
   }
     where
-      each : (list : List (List ℕ)) → IsReading limit file list → P list
+      each : (list : List (List ℕ)) → IsFileReading limit file list → P list
       each list (inl (inl made)) = subst P (sym made.1) here
       each list (inl (inr is)) = absurd (image_made limit file _ _ _ is.image making)
       each list (inr found) = absurd (image_made limit file _ _ _ found.1.image making)
 
   -- a file whose last gate is 0
-  pub closed_each : (file : List ℕ) (ps : List (List ℕ)) (rest : List ℕ) → IsImage limit file ps 0 rest → P ps → EachReading limit P file
+  pub closed_each : (file : List ℕ) (ps : List (List ℕ)) (rest : List ℕ) → IsImage limit file ps 0 rest → P ps → EachFileReading limit P file
   closed_each file ps rest image here = record {
     some = record { image = (ps, inr (record { gate = 0; rest = rest; image = image })); opened = λ opened torn. absurd (untorn opened torn) };
     each = each;
@@ -54,7 +54,7 @@ module _ (limit : ℕ) (P : List (List ℕ) → Type 0) where
       untorn : (opened : List ℕ) → IsTorn limit file opened → ⊥
       untorn opened torn = torn.torn (sym (one_image limit file ps torn.payloads 0 torn.gate rest torn.rest image torn.image).1)
 
-      each : (list : List (List ℕ)) → IsReading limit file list → P list
+      each : (list : List (List ℕ)) → IsFileReading limit file list → P list
       each list (inl (inl made)) = absurd (image_made limit file _ _ _ image made.0)
       each list (inl (inr is)) = subst P (one_image limit file ps list 0 is.gate rest is.rest image is.image).0 here
       each list (inr found) = absurd (untorn found.0 found.1)
@@ -69,7 +69,7 @@ module _ (limit : ℕ) (ps qs : List (List ℕ)) (r s : List ℕ) (opens : IsIma
       let is = torn.is_opened in
       cc
 
-  torn_reading : (g : ℕ) (list : List (List ℕ)) → IsImage limit (spelled ps g r) ps g r → IsReading limit (spelled ps g r) list → (list ≡ ps) ⊎ (list ≡ qs)
+  torn_reading : (g : ℕ) (list : List (List ℕ)) → IsImage limit (spelled ps g r) ps g r → IsFileReading limit (spelled ps g r) list → (list ≡ ps) ⊎ (list ≡ qs)
   torn_reading g list image (inl (inl made)) = absurd (image_made limit _ _ _ _ image made.0)
   torn_reading g list image (inl (inr is)) = inl (sym (one_image limit (spelled ps g r) ps list g is.gate r is.rest image is.image).0)
   torn_reading g list image (inr (opened, torn, inl made)) = absurd (image_made limit _ _ _ _ opens (subst IsInMaking (is_opened g opened image torn) made.0))
@@ -77,7 +77,7 @@ module _ (limit : ℕ) (ps qs : List (List ℕ)) (r s : List ℕ) (opens : IsIma
       let same = subst (λ (f : List ℕ). IsImage limit f list is.gate is.rest) (is_opened g opened image torn) is.image in
       inr (sym (one_image limit (spelled ps 1 r) qs list 0 is.gate s is.rest opens same).0)
 
-  torn_each : (P : List (List ℕ) → Type 0) (g : ℕ) → IsImage limit (spelled ps g r) ps g r → P ps → P qs → EachReading limit P (spelled ps g r)
+  torn_each : (P : List (List ℕ) → Type 0) (g : ℕ) → IsImage limit (spelled ps g r) ps g r → P ps → P qs → EachFileReading limit P (spelled ps g r)
   torn_each P g image before after = record {
     some = record {
       image = (ps, inr (record { gate = g; rest = r; image = image }));
@@ -86,14 +86,14 @@ module _ (limit : ℕ) (ps qs : List (List ℕ)) (r s : List ℕ) (opens : IsIma
     each = λ list reading. ⊎_elim (λ e. subst P (sym e) before) (λ e. subst P (sym e) after) (torn_reading g list image reading);
   }
 
-  pub gate_each : (P : List (List ℕ) → Type 0) (g : ℕ) → counted ps ≤ limit → P ps → P qs → EachReading limit P (spelled ps g r)
+  pub gate_each : (P : List (List ℕ) → Type 0) (g : ℕ) → counted ps ≤ limit → P ps → P qs → EachFileReading limit P (spelled ps g r)
   gate_each P g within before after = elim (cases_eq g 1) [
-    | inl one ↦ subst (λ (n : ℕ). EachReading limit P (spelled ps n r)) (sym one) (closed_each limit P (spelled ps 1 r) qs s opens after)
+    | inl one ↦ subst (λ (n : ℕ). EachFileReading limit P (spelled ps n r)) (sym one) (closed_each limit P (spelled ps 1 r) qs s opens after)
     | inr ends ↦ torn_each P g (record { spells = refl; ends = ends; within = within }) before after
   ]
 
 -- A file that is read as one list alone, and is not in making, has a gate 0 at its end.
-pub closed_of : (limit : ℕ) (file : List ℕ) (ps : List (List ℕ)) → EachReading limit (λ list. list ≡ ps) file → (IsInMaking file → ⊥)
+pub closed_of : (limit : ℕ) (file : List ℕ) (ps : List (List ℕ)) → EachFileReading limit (λ list. list ≡ ps) file → (IsInMaking file → ⊥)
     → (rest : List ℕ) × IsImage limit file ps 0 rest
 closed_of limit file ps only unmade = from only.some.image.0 only.some.image.1
   where
@@ -109,7 +109,7 @@ closed_of limit file ps only unmade = from only.some.image.0 only.some.image.1
         let gate : suc 0 ≡ 0 = one_gate ps 1 0 r closed.rest same in
         absurd (omega arith)
 
-    from : (qs : List (List ℕ)) → ReadsAs limit file qs → (rest : List ℕ) × IsImage limit file ps 0 rest
+    from : (qs : List (List ℕ)) → FileReadsAs limit file qs → (rest : List ℕ) × IsImage limit file ps 0 rest
     from qs (inl made) = absurd (unmade made.0)
     from qs (inr is) = elim (cases_eq is.gate 0) [
       | inl zero ↦ (is.rest, subst (λ (n : ℕ). IsImage limit file ps n is.rest) zero (image_of qs is))

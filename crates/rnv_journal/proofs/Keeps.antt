@@ -19,26 +19,26 @@ module _ (limit : ℕ) where
 
   -- a call that does nothing
   pub keeps_self : (past : Past) → KeepsReadings limit past past
-  keeps_self past has = started past (λ c. EachReading limit (IsReadingNow limit past) c.zero) (each_now past has)
+  keeps_self past has = started past (λ c. EachReading limit (IsReadingNow limit past) c) (each_now past has)
 
   -- one call after another
   pub keeps_both : (old mid new : Past) → KeepsReadings limit old mid → KeepsReadings limit mid new → KeepsReadings limit old new
-  keeps_both old mid new one two has = joined old mid new (λ c. EachReading limit (IsReadingNow limit old) c.zero) first
-      (widened mid new (λ c. EachReading limit (IsReadingNow limit mid) c.zero) (λ c. EachReading limit (IsReadingNow limit old) c.zero) back
+  keeps_both old mid new one two has = joined old mid new (λ c. EachReading limit (IsReadingNow limit old) c) first
+      (widened mid new (λ c. EachReading limit (IsReadingNow limit mid) c) (λ c. EachReading limit (IsReadingNow limit old) c) back
       (two (has_now (IsReadingNow limit old) mid between)))
     where
       first : ReadsOnly limit old mid (IsReadingNow limit old)
       first = one has
 
       between : EachReadingNow limit (IsReadingNow limit old) mid
-      between c left = ended old mid (λ c. EachReading limit (IsReadingNow limit old) c.zero) first c left
+      between c left = ended old mid (λ c. EachReading limit (IsReadingNow limit old) c) first c left
 
-      back : (c : Image) → EachReading limit (IsReadingNow limit mid) c.zero → EachReading limit (IsReadingNow limit old) c.zero
+      back : (c : Image) → EachReading limit (IsReadingNow limit mid) c → EachReading limit (IsReadingNow limit old) c
       back c each = record { some = each.some; each = λ list reading. let now = each.each list reading in (between now.image now.left).each list now.reading }
 
   -- a run at whose every moment a stop leaves what it could have left before
   pub keeps_left : (old new : Past) → LeavesOnly old new (LeftNow old) → KeepsReadings limit old new
-  keeps_left old new run has = widened old new (LeftNow old) (λ c. EachReading limit (IsReadingNow limit old) c.zero) (each_now old has) run
+  keeps_left old new run has = widened old new (LeftNow old) (λ c. EachReading limit (IsReadingNow limit old) c) (each_now old has) run
 
   module _ (old new : Past) where
     pub closing_keeps : (ps : List (List ℕ)) (g : ℕ) → IsOneImage limit old ps g → g ≢ 0 → LeavesOnly old new (IsTornFrom old (end_of ps) 1) → KeepsReadings limit old new

@@ -5,7 +5,8 @@ use Rattle.rnv_disk.specs.Images.{Image, put, Torn}
 use Rattle.rnv_disk.specs.Stops.{Past, LeftNow, IsDurable, LeavesOnly}
 use Rattle.rnv_disk.proofs.Moments.{widened}
 use Rattle.rnv_journal.specs.File.{body, made, spelled, end_of, counted, IsImage, IsBegun, IsInMaking}
-use Rattle.rnv_journal.specs.Reading.{IsTorn, EachReading}
+use Rattle.rnv_journal.specs.FileReading.{IsTorn, EachFileReading}
+use Rattle.rnv_journal.specs.Reading.{EachReading}
 use Rattle.rnv_journal.specs.Readings.{EachReadingNow, ReadsOnly, IsAtRest, IsOneImage, IsTornFrom}
 use Rattle.rnv_journal.proofs.Founds.{end_push}
 use Rattle.rnv_journal.proofs.Wrong.{image_made}
@@ -19,9 +20,9 @@ from_one past file at n c durable from = subst (λ (f : List ℕ). Torn at n f c
 module _ (limit : ℕ) (ps : List (List ℕ)) (old new : Past) where
   -- at rest, a write behind the gate at the end
   pub behind_reads : (n : ℕ) → IsAtRest limit old ps → LeavesOnly old new (IsTornFrom old (end_of ps + 1) n) → ReadsOnly limit old new (λ list. list ≡ ps)
-  behind_reads n rest run = widened old new (IsTornFrom old (end_of ps + 1) n) (λ c. EachReading limit (λ list. list ≡ ps) c.zero) each run
+  behind_reads n rest run = widened old new (IsTornFrom old (end_of ps + 1) n) (λ c. EachReading limit (λ list. list ≡ ps) c) each run
     where
-      each : (c : Image) → IsTornFrom old (end_of ps + 1) n c → EachReading limit (λ list. list ≡ ps) c.zero
+      each : (c : Image) → IsTornFrom old (end_of ps + 1) n c → EachReading limit (λ list. list ≡ ps) c
       each c from =
           let was = closed_of limit from.image.zero ps (rest.settled from.image from.left) (rest.made from.image from.left) in
           let torn = subst (λ (f : List ℕ). Torn (end_of ps + 1) n f c.zero) was.1.spells from.torn.here in
@@ -31,7 +32,7 @@ module _ (limit : ℕ) (ps : List (List ℕ)) (old new : Past) where
   -- a write of 1 into the gate at the end, in front of an entry and a gate 0
   pub opening_reads : (p r : List ℕ) → IsDurable Zero old (spelled ps 0 (body p ++ 0 ∷ r)) → counted (ps ++ p ∷ []) ≤ limit
       → LeavesOnly old new (IsTornFrom old (end_of ps) 1) → ReadsOnly limit old new (λ list. (list ≡ ps) ⊎ (list ≡ ps ++ p ∷ []))
-  opening_reads p r durable within run = widened old new (IsTornFrom old (end_of ps) 1) (λ c. EachReading limit P c.zero) each run
+  opening_reads p r durable within run = widened old new (IsTornFrom old (end_of ps) 1) (λ c. EachReading limit P c) each run
     where
       P : List (List ℕ) → Type 0
       P list = (list ≡ ps) ⊎ (list ≡ ps ++ p ∷ [])
@@ -39,31 +40,31 @@ module _ (limit : ℕ) (ps : List (List ℕ)) (old new : Past) where
       opens : IsImage limit (spelled ps 1 (body p ++ 0 ∷ r)) (ps ++ p ∷ []) 0 r
       opens = record { spells = spelled_push ps p 0 r; ends = λ e. cc; within = within }
 
-      each : (c : Image) → IsTornFrom old (end_of ps) 1 c → EachReading limit P c.zero
+      each : (c : Image) → IsTornFrom old (end_of ps) 1 c → EachReading limit P c
       each c from =
           let is = torn_gate ps 0 (body p ++ 0 ∷ r) c.zero (from_one old _ (end_of ps) 1 c durable from) in
-          subst (λ (f : List ℕ). EachReading limit P f) (sym is.1)
+          subst (λ (f : List ℕ). EachFileReading limit P f) (sym is.1)
           (gate_each limit ps (ps ++ p ∷ []) (body p ++ 0 ∷ r) r opens P is.0 (omega (arith, within, end_push ps p)) (inl refl) (inr refl))
 
   -- a write of 0 into a torn gate at the end
   pub closing_reads : (P : List (List ℕ) → Type 0) (g : ℕ) (r : List ℕ) → IsImage limit (spelled ps g r) ps g r → g ≢ 0 → IsDurable Zero old (spelled ps g r)
       → EachReadingNow limit P old → LeavesOnly old new (IsTornFrom old (end_of ps) 1) → ReadsOnly limit old new P
-  closing_reads P g r image torn durable before run = widened old new (IsTornFrom old (end_of ps) 1) (λ c. EachReading limit P c.zero) each run
+  closing_reads P g r image torn durable before run = widened old new (IsTornFrom old (end_of ps) 1) (λ c. EachReading limit P c) each run
     where
-      each : (c : Image) → IsTornFrom old (end_of ps) 1 c → EachReading limit P c.zero
+      each : (c : Image) → IsTornFrom old (end_of ps) 1 c → EachReading limit P c
       each c from =
           let is = torn_gate ps g r c.zero (from_one old _ (end_of ps) 1 c durable from) in
-          let was = subst (λ (f : List ℕ). EachReading limit P f) (durable from.image from.left) (before from.image from.left) in
+          let was = subst (λ (f : List ℕ). EachFileReading limit P f) (durable from.image from.left) (before from.image from.left) in
           let tear : IsTorn limit (spelled ps g r) (spelled ps 1 r) = record { payloads = ps; gate = g; rest = r; image = image; torn = torn; is_opened = refl } in
           let closed = was.some.opened (spelled ps 1 r) tear in
           let here : P ps = was.each ps (inl (inr (record { gate = g; rest = r; image = image }))) in
           let there : P closed.payloads = was.each closed.payloads (inr (spelled ps 1 r, tear, inr (record { gate = 0; rest = closed.rest; image = closed.image }))) in
-          subst (λ (f : List ℕ). EachReading limit P f) (sym is.1) (gate_each limit ps closed.payloads r closed.rest closed.image P is.0 image.within here there)
+          subst (λ (f : List ℕ). EachFileReading limit P f) (sym is.1) (gate_each limit ps closed.payloads r closed.rest closed.image P is.0 image.within here there)
 
 -- each stop leaves one file, whose gate at the end is 0
 pub one_file : (limit : ℕ) (past : Past) (file : List ℕ) (ps : List (List ℕ)) (r : List ℕ) → IsDurable Zero past file → IsImage limit file ps 0 r → IsAtRest limit past ps
 one_file limit past file ps r durable image = record {
-  settled = λ c left. subst (λ (f : List ℕ). EachReading limit (λ list. list ≡ ps) f) (sym (durable c left)) (closed_each limit (λ list. list ≡ ps) file ps r image refl);
+  settled = λ c left. subst (λ (f : List ℕ). EachFileReading limit (λ list. list ≡ ps) f) (sym (durable c left)) (closed_each limit (λ list. list ≡ ps) file ps r image refl);
   made = λ c left making. image_made limit file ps 0 r image (subst IsInMaking (durable c left) making);
 }
 
@@ -73,13 +74,13 @@ module _ (limit : ℕ) (enough : 14 ≤ limit) (P : List (List ℕ) → Type 0) 
   empty : (c : Image) → LeftNow old c → P []
   empty c left = (before c left).each [] (inl (inl (subst IsInMaking (sym (durable c left)) making, refl)))
 
-  either : (c : Image) → P [] → IsInMaking c.zero ⊎ (c.zero ≡ spelled [] 0 []) → EachReading limit P c.zero
+  either : (c : Image) → P [] → IsInMaking c.zero ⊎ (c.zero ≡ spelled [] 0 []) → EachReading limit P c
   either c here (inl is) = making_each limit P c.zero is here
   either c here (inr is) = closed_each limit P c.zero [] [] (record { spells = is; ends = λ e. cc; within = enough }) here
 
   making_reads : (at n : ℕ) → ((c : Image) → Torn at n file c.zero → IsInMaking c.zero ⊎ (c.zero ≡ spelled [] 0 []))
       → LeavesOnly old new (IsTornFrom old at n) → ReadsOnly limit old new P
-  making_reads at n torn run = widened old new (IsTornFrom old at n) (λ c. EachReading limit P c.zero)
+  making_reads at n torn run = widened old new (IsTornFrom old at n) (λ c. EachReading limit P c)
       (λ c from. either c (empty from.image from.left) (torn c (from_one old file at n c durable from))) run
 
   -- the first byte, where the file is not begun

@@ -1,8 +1,8 @@
 -- A file that goes wrong at some offset is no image.
 use Rattle.std.proofs.Common.{◌≡◌, ◌≢◌, ◌≤◌, inl, inr, ℕ, ◌+◌, List, [], ◌∷◌, ◌++◌, length, take, refl, sym, ◌∙◌, ap, subst, arith, append_assoc}
 use Rattle.std.proofs.lemmas.List.{append_cancel_left}
-use Rattle.rnv_journal.specs.File.{head, body, entries, spelled, end_of, IsImage, IsInMaking, IsNothing, IsBroken, IsWrongAt}
-use Rattle.rnv_journal.specs.Reading.{ReadsAs}
+use Rattle.rnv_journal.specs.File.{head, body, entries, spelled, end_of, IsImage, IsInMaking, IsNothing, IsBroken, IsFileWrongAt}
+use Rattle.rnv_journal.specs.FileReading.{FileReadsAs}
 use Rattle.rnv_journal.proofs.Spelling.{one_body}
 
 -- a file with the head is made
@@ -51,7 +51,7 @@ unfolding head
 front_of file x e = rw e refl
 
 -- a file that goes wrong at some offset is no image
-pub wrong_unread : (limit : ℕ) (file : List ℕ) (offset : ℕ) (ps : List (List ℕ)) → IsWrongAt limit file offset → ReadsAs limit file ps → ⊥
+pub wrong_unread : (limit : ℕ) (file : List ℕ) (offset : ℕ) (ps : List (List ℕ)) → IsFileWrongAt limit file offset → FileReadsAs limit file ps → ⊥
 unfolding spelled
 wrong_unread limit file offset ps (inl headless) (inl making) = headless.0.unmade making.0
 wrong_unread limit file offset ps (inl headless) (inr is) = headless.0.other (front_of file _ is.image.spells)

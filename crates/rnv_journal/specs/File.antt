@@ -82,5 +82,5 @@ pub record IsHeadless (file : List ℕ) : Type 0 where
   pub other : take 13 file ≢ head
 
 -- the file is no image, and the offset says where it goes wrong: 0 where the head is wrong
-abbrev pub IsWrongAt : ℕ → List ℕ → ℕ → Type 0
-IsWrongAt limit file offset = (IsHeadless file × (offset ≡ 0)) ⊎ IsBroken limit file offset
+abbrev pub IsFileWrongAt : ℕ → List ℕ → ℕ → Type 0
+IsFileWrongAt limit file offset = (IsHeadless file × (offset ≡ 0)) ⊎ IsBroken limit file offset

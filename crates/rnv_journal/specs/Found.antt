@@ -1,7 +1,7 @@
 -- What is read of the bytes of a file.
 use Rattle.std.specs.Prelude.{◌≡◌, ℕ, ◌+◌, ◌<◌, ◌≤◌, List, ◌∷◌, ◌++◌, length, map}
 use Rattle.rnv_base.specs.Buffer.{Buffer}
-use Rattle.rnv_journal.specs.File.{body, entries, end_of, IsImage, IsInMaking, IsWrongAt}
+use Rattle.rnv_journal.specs.File.{body, entries, end_of, IsImage, IsInMaking, IsFileWrongAt}
 use Rattle.rnv_journal.specs.declared.reading.Reading.{Reading}
 use Rattle.rnv_journal.specs.declared.reading.Reading.TheVariants.{InMaking, Entries}
 use Rattle.rnv_journal.specs.declared.reading.ReadError.{ReadError}
@@ -38,5 +38,5 @@ IsReadFrom limit file (Entries found end gate) = IsEnded limit file found end ga
 
 -- the file is no image, and this is where
 abbrev pub IsRefused : ℕ → List ℕ → ReadError → Type 0
-IsRefused limit file (NotAJournal offset) = IsWrongAt limit file offset
+IsRefused limit file (NotAJournal offset) = IsFileWrongAt limit file offset
 IsRefused limit file Memory = Unit {0}

@@ -1,4 +1,5 @@
 pub mod File
+pub mod FileReading
 pub mod Found
 pub mod Held
 pub mod Reading

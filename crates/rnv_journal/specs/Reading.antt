@@ -1,42 +1,30 @@
--- What the bytes of a journal's file are read as.
-use Rattle.std.specs.Prelude.{◌≡◌, ◌≢◌, ◌⊎◌, ℕ, List, []}
-use Rattle.rnv_journal.specs.File.{IsImage, IsInMaking, spelled}
+-- What the bytes of a disk's two files are read as. So far the journal is file `Zero`, and file `One` is unused: of all that is
+-- said of readings, in this crate and above it, these definitions alone know that.
+use Rattle.std.specs.Prelude.{ℕ, List}
+use Rattle.rnv_disk.specs.Images.{Image}
+use Rattle.rnv_journal.specs.File.{IsInMaking, IsFileWrongAt}
+use Rattle.rnv_journal.specs.FileReading.{FileReadsAs, IsFileReading, HasFileReadings, EachFileReading}
 
--- the file spells this list
-pub record IsSpelled (limit : ℕ) (file : List ℕ) (payloads : List (List ℕ)) : Type 0 where
-  pub gate : ℕ
-  pub rest : List ℕ
-  pub image : IsImage limit file payloads gate rest
+-- The image is one of a journal, and reads as this list: one in making as the empty list.
+abbrev pub ReadsAs : ℕ → Image → List (List ℕ) → Type 0
+ReadsAs limit image payloads = FileReadsAs limit image.zero payloads
 
--- The file is an image, and reads as this list: a file in making as the empty one.
-abbrev pub ReadsAs : ℕ → List ℕ → List (List ℕ) → Type 0
-ReadsAs limit file payloads = (IsInMaking file × (payloads ≡ [])) ⊎ IsSpelled limit file payloads
+-- one of the lists that the image may be read as: its own, or that with its torn gate set to 1
+abbrev pub IsReading : ℕ → Image → List (List ℕ) → Type 0
+IsReading limit image payloads = IsFileReading limit image.zero payloads
 
--- the gate at the end is torn, neither 0 nor 1, and with that gate set to 1 the file is opened
-pub record IsTorn (limit : ℕ) (file opened : List ℕ) : Type 0 where
-  pub payloads : List (List ℕ)
-  pub gate : ℕ
-  pub rest : List ℕ
-  pub image : IsImage limit file payloads gate rest
-  pub torn : gate ≢ 0
-  pub is_opened : opened ≡ spelled payloads 1 rest
+-- The image is one of a journal, and where its last gate is torn, it is one too with that gate set to 1, and its last gate is then 0.
+abbrev pub HasReadings : ℕ → Image → Type 0
+HasReadings limit image = HasFileReadings limit image.zero
 
--- one of the lists that the file may be read as: its own, or that of the file with its torn gate set to 1
-abbrev pub IsReading : ℕ → List ℕ → List (List ℕ) → Type 0
-IsReading limit file payloads = ReadsAs limit file payloads ⊎ ((opened : List ℕ) × IsTorn limit file opened × ReadsAs limit opened payloads)
+-- the image has readings, and each of them is so
+abbrev pub EachReading : ℕ → (List (List ℕ) → Type 0) → Image → Type 0
+EachReading limit P image = EachFileReading limit P image.zero
 
--- the file is an image whose gate at the end is 0
-pub record IsClosed (limit : ℕ) (file : List ℕ) : Type 0 where
-  pub payloads : List (List ℕ)
-  pub rest : List ℕ
-  pub image : IsImage limit file payloads 0 rest
+-- no stop in the making of a journal leaves this image
+abbrev pub IsMade : Image → Type 0
+IsMade image = ¬ IsInMaking image.zero
 
--- The file is an image, and where its gate is torn, the file with that gate set to 1 is an image too, whose gate at the end is 0.
-pub record HasReadings (limit : ℕ) (file : List ℕ) : Type 0 where
-  pub image : (payloads : List (List ℕ)) × ReadsAs limit file payloads
-  pub opened : (opened : List ℕ) → IsTorn limit file opened → IsClosed limit opened
-
--- the file has readings, and each of them is so
-pub record EachReading (limit : ℕ) (P : List (List ℕ) → Type 0) (file : List ℕ) : Type 0 where
-  pub some : HasReadings limit file
-  pub each : (payloads : List (List ℕ)) → IsReading limit file payloads → P payloads
+-- the image is none of a journal, and the offset says where its bytes go wrong: 0 where the head is wrong
+abbrev pub IsWrongAt : ℕ → Image → ℕ → Type 0
+IsWrongAt limit image offset = IsFileWrongAt limit image.zero offset

@@ -1,4 +1,4 @@
--- What the journal on a disk is read as, over time. A stop leaves an image, of which a start reads file `Zero`.
+-- What the journal on a disk is read as, over time. A stop leaves an image of both files, which a start reads.
 --
 -- What a call promises of stops is said on the disk's past before it and after it, and speaks of lists of byte strings alone:
 -- `ReadsOnly limit old new P` says that a stop at any moment of the call leaves a disk that has readings, and each of them has P.
@@ -13,31 +13,31 @@ use Rattle.std.specs.Prelude.{◌≡◌, ◌≤◌, ◌⊎◌, ℕ, List, [], �
 use Rattle.rnv_disk.specs.declared.device.FileNo.TheVariants.{Zero}
 use Rattle.rnv_disk.specs.Images.{Image, On, Torn}
 use Rattle.rnv_disk.specs.Stops.{Past, LeftNow, IsDurable, LeavesOnly}
-use Rattle.rnv_journal.specs.File.{body, end_of, counted, spelled, IsImage, IsInMaking}
+use Rattle.rnv_journal.specs.File.{body, end_of, counted, spelled, IsImage}
 use Rattle.rnv_journal.specs.Held.{Held}
-use Rattle.rnv_journal.specs.Reading.{IsReading, HasReadings, EachReading}
+use Rattle.rnv_journal.specs.Reading.{IsReading, HasReadings, EachReading, IsMade}
 
 -- whatever a stop at this moment leaves has readings
 abbrev pub HasReadingsNow : ℕ → Past → Type 0
-HasReadingsNow limit past = (c : Image) → LeftNow past c → HasReadings limit c.zero
+HasReadingsNow limit past = (c : Image) → LeftNow past c → HasReadings limit c
 
 -- one of the lists that the disk is read as after a stop at this moment
 pub record IsReadingNow (limit : ℕ) (past : Past) (list : List (List ℕ)) : Type 0 where
   pub image : Image
   pub left : LeftNow past image
-  pub reading : IsReading limit image.zero list
+  pub reading : IsReading limit image list
 
 -- whatever a stop at this moment leaves has readings, and each of them is so
 abbrev pub EachReadingNow : ℕ → (List (List ℕ) → Type 0) → Past → Type 0
-EachReadingNow limit P past = (c : Image) → LeftNow past c → EachReading limit P c.zero
+EachReadingNow limit P past = (c : Image) → LeftNow past c → EachReading limit P c
 
 -- Whatever a stop at some moment since old leaves has readings, and each of them is so.
 abbrev pub ReadsOnly : ℕ → Past → Past → (List (List ℕ) → Type 0) → Type 0
-ReadsOnly limit old new P = LeavesOnly old new (λ c. EachReading limit P c.zero)
+ReadsOnly limit old new P = LeavesOnly old new (λ c. EachReading limit P c)
 
 -- the same since a moment before new
 abbrev pub ReadsOnlySince : ℕ → ℕ → Past → (List (List ℕ) → Type 0) → Type 0
-ReadsOnlySince limit moment new P = (c : Image) → new.left moment c → EachReading limit P c.zero
+ReadsOnlySince limit moment new P = (c : Image) → new.left moment c → EachReading limit P c
 
 -- From a disk that has readings, a stop at any moment since old leaves a disk that has readings, each of them one of those at old.
 abbrev pub KeepsReadings : ℕ → Past → Past → Type 0
@@ -46,7 +46,7 @@ KeepsReadings limit old new = HasReadingsNow limit old → ReadsOnly limit old n
 -- whatever a stop at this moment leaves is read as this list alone, and is not in making
 pub record IsAtRest (limit : ℕ) (past : Past) (list : List (List ℕ)) : Type 0 where
   pub settled : EachReadingNow limit (λ reading. reading ≡ list) past
-  pub made : (c : Image) → LeftNow past c → ¬ IsInMaking c.zero
+  pub made : (c : Image) → LeftNow past c → IsMade c
 
 -- each stop leaves one file, which spells this list with this gate at its end
 pub record IsOneImage (limit : ℕ) (past : Past) (list : List (List ℕ)) (gate : ℕ) : Type 0 where

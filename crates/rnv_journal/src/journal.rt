@@ -81,9 +81,9 @@ impl Journal {
         // File `One` is left alone.
         ensures other { KeepsOne (D.past disk.old) (D.past disk.new) }
         ensures at_rest { IfOk result (λ journal. IsAtRest limit (D.past disk.new) journal.entries) }
-        ensures entries { D.tells → IfOk result (λ journal. ReadsAs limit (D.seen disk.old).zero journal.entries) }
+        ensures entries { D.tells → IfOk result (λ journal. ReadsAs limit (D.seen disk.old) journal.entries) }
         ensures fresh { IfOk result (λ journal. (journal.prepared ≡ []) × (journal.limit ≡ limit) × (journal.closed ≡ false)) }
-        ensures refused { D.tells → IfErr result (λ error. IsRefusal limit (D.seen disk.old).zero error) }
+        ensures refused { D.tells → IfErr result (λ error. IsRefusal limit (D.seen disk.old) error) }
         ensures only_read { IfErr result (λ error. UnlessFault error (LeavesOnly (D.past disk.old) (D.past disk.new) (LeftNow (D.past disk.old)))) }
         ensures same { D.tells → IfErr result (λ error. WhereNoJournal error (D.seen disk.new ≡ D.seen disk.old)) }
         ensures cause { FaultsBy (D.faults disk.old) (D.faults disk.new) result StartError.DiskFault }
@@ -98,6 +98,13 @@ impl Journal {
             }),
             Err(error) => Err(error),
         }
+    }
+
+    /// How many byte strings stand.
+    pub fn count(&self) -> usize
+        ensures { result ≡ length self.now.entries }
+    {
+        self.entries.len()
     }
 
     /// The byte strings, in order.

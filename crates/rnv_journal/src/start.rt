@@ -4,9 +4,9 @@ ghost use Rattle.rnv_disk.specs.declared.device.FileNo.TheVariants.{Zero};
 ghost use Rattle.rnv_disk.specs.Stops.{LeftNow, IsDurable, LeavesOnly};
 ghost use Rattle.rnv_journal.specs.File.{end_of, counted};
 ghost use Rattle.rnv_journal.specs.Found.{strings};
-ghost use Rattle.rnv_journal.specs.Reading.{ReadsAs};
+ghost use Rattle.rnv_journal.specs.FileReading.{FileReadsAs};
 ghost use Rattle.rnv_journal.specs.Readings.{KeepsOne, KeepsReadings, IsAtRest};
-ghost use Rattle.rnv_journal.specs.Start.{IsRefusal, UnlessFault, WhereNoJournal};
+ghost use Rattle.rnv_journal.specs.Start.{IsFileRefusal, UnlessFault, WhereNoJournal};
 
 use crate::making::{close, make};
 use crate::reading::{ReadError, Reading, read_image};
@@ -43,8 +43,8 @@ pub(crate) fn entries_at_rest<D: Disk>(
     ensures at_rest { IfOk result (λ found. IsAtRest limit (D.past disk.new) (strings found.0)) }
     ensures end { IfOk result (λ found. found.1 ≡ end_of (strings found.0)) }
     ensures within { IfOk result (λ found. counted (strings found.0) ≤ limit) }
-    ensures entries { D.tells → IfOk result (λ found. ReadsAs limit (D.seen disk.old).zero (strings found.0)) }
-    ensures refused { D.tells → IfErr result (λ error. IsRefusal limit (D.seen disk.old).zero error) }
+    ensures entries { D.tells → IfOk result (λ found. FileReadsAs limit (D.seen disk.old).zero (strings found.0)) }
+    ensures refused { D.tells → IfErr result (λ error. IsFileRefusal limit (D.seen disk.old).zero error) }
     ensures only_read { IfErr result (λ error. UnlessFault error (LeavesOnly (D.past disk.old) (D.past disk.new) (LeftNow (D.past disk.old)))) }
     ensures same { D.tells → IfErr result (λ error. WhereNoJournal error (D.seen disk.new ≡ D.seen disk.old)) }
     ensures cause { FaultsBy (D.faults disk.old) (D.faults disk.new) result StartError.DiskFault }
@@ -71,8 +71,8 @@ fn settled<D: Disk>(
     ensures at_rest { IfOk result (λ found. IsAtRest limit (D.past disk.new) (strings found.0)) }
     ensures end { IfOk result (λ found. found.1 ≡ end_of (strings found.0)) }
     ensures within { IfOk result (λ found. counted (strings found.0) ≤ limit) }
-    ensures entries { IfOk result (λ found. ReadsAs limit bytes.now (strings found.0)) }
-    ensures refused { IfErr result (λ error. IsRefusal limit bytes.now error) }
+    ensures entries { IfOk result (λ found. FileReadsAs limit bytes.now (strings found.0)) }
+    ensures refused { IfErr result (λ error. IsFileRefusal limit bytes.now error) }
     ensures only_read { IfErr result (λ error. UnlessFault error (disk.new ≡ disk.old)) }
     ensures cause { FaultsBy (D.faults disk.old) (D.faults disk.new) result StartError.DiskFault }
 {
