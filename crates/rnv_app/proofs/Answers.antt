@@ -389,12 +389,12 @@ module _ (s : Sight) (words : List (List ℕ)) (text : Answer) (answered : IsAns
     pub run_is : (repo : List ℕ) (at : ℕ) → IsRun words repo at → IsRunEnd s repo at tells before after faults now code
     run_is repo at asked = the answered
       where
-        end : (answer : Result (List ℕ) RunRefusal) → text ≡ running answer → Runs s.folder_tells s.files s.disk_tells s.file s.entry s.exit repo at answer → IsRunEnd s repo at tells before after faults now code
+        end : (answer : Result (List ℕ) RunRefusal) → text ≡ running answer → Runs s.folder_tells s.files s.disk_tells s.seen s.entry s.exit repo at answer → IsRunEnd s repo at tells before after faults now code
         end answer e r = record { answer = answer; told = told_as (running answer) e; runs = r }
 
         none_then : KeepsReadings 268435456 s.entry s.exit → ((text ≡ Err Usage) × IsUsage words) ⊎ ((text ≡ Err Memory) × ¬ (IsUsage words)) → IsRunEnd s repo at tells before after faults now code
         none_then keeps (inl u) = absurd (u.1.run repo at asked)
-        none_then keeps (inr m) = end (Err (of_run.Ended run.Memory)) m.0 (runs_none s.folder_tells s.files s.disk_tells s.file s.entry s.exit repo at keeps)
+        none_then keeps (inr m) = end (Err (of_run.Ended run.Memory)) m.0 (runs_none s.folder_tells s.files s.disk_tells s.seen s.entry s.exit repo at keeps)
 
         the : IsAnswered s words text → IsRunEnd s repo at tells before after faults now code
         the (inl p) = absurd (not_run words p.repo repo p.now at p.asked asked)
@@ -402,8 +402,8 @@ module _ (s : Sight) (words : List (List ℕ)) (text : Answer) (answered : IsAns
         the (inr (inr (inl i))) = absurd (not_both words (codes "run") repo at (codes "show") i.repo asked i.asked)
         the (inr (inr (inr (inl r)))) =
             let same = one_time words (codes "run") r.repo repo r.now at r.asked asked in
-            end r.answer r.is (subst (λ (n : ℕ). Runs s.folder_tells s.files s.disk_tells s.file s.entry s.exit repo n r.answer) same.1
-            (subst (λ (n : List ℕ). Runs s.folder_tells s.files s.disk_tells s.file s.entry s.exit n r.now r.answer) same.0 r.runs))
+            end r.answer r.is (subst (λ (n : ℕ). Runs s.folder_tells s.files s.disk_tells s.seen s.entry s.exit repo n r.answer) same.1
+            (subst (λ (n : List ℕ). Runs s.folder_tells s.files s.disk_tells s.seen s.entry s.exit n r.now r.answer) same.0 r.runs))
         the (inr (inr (inr (inr n)))) = none_then n.keeps n.refused
 
 -- a refusal of a command over the store, as the program's
@@ -494,7 +494,7 @@ run_disk_of (Err (of_run.Ended (run.IndexRefused file line))) is = absurd (cc is
 -- ---- a command over the store, whichever it is
 
 pub store_damaged : (s : Sight) (words : List (List ℕ)) (text : Answer) → IsAnswered s words text → (tells : Type 0) (before after : List ℕ) (faults now code : ℕ) → IsTold tells before after faults now text code → s.disk_tells
-    → (repo : List ℕ) → IsOfStore words repo → (offset : ℕ) → IsDamaged 268435456 s.file offset → IsDamagedOr code
+    → (repo : List ℕ) → IsOfStore words repo → (offset : ℕ) → IsDamaged 268435456 s.seen offset → IsDamagedOr code
 store_damaged s words text answered tells before after faults now code told d repo asked offset damaged = by asked
   where
     by : IsOfStore words repo → IsDamagedOr code

@@ -159,10 +159,10 @@ error_of answer refusal e = subst (λ (a : Answer). IsErrOf a refusal) (sym e) r
 
 -- a run without a cause of a refusal and without a fault
 pub run_complete : (s : Sight) (repo : List ℕ) (moment : ℕ) (tells : Type 0) (before after : List ℕ) (faults now code : ℕ) (Folds Disks : Type 0) → IsRunEnd s repo moment tells before after faults now code → s.folder_tells → s.disk_tells
-    → IsFreeRun s.files repo moment s.file → (code ≡ 5 → Folds) → (code ≡ 7 → Disks) → ¬ Folds → ¬ Disks → ¬ (Rose faults now) → (code ≡ 0) ⊎ (code ≡ 1)
+    → IsFreeRun s.files repo moment s.seen → (code ≡ 5 → Folds) → (code ≡ 7 → Disks) → ¬ Folds → ¬ Disks → ¬ (Rose faults now) → (code ≡ 0) ⊎ (code ≡ 1)
 run_complete s repo moment tells before after faults now code Folds Disks end t d free five seven folder disk still = by end.answer end.told end.runs
   where
-    by : (answer : Result (List ℕ) RunRefusal) → IsTold tells before after faults now (running answer) code → Runs s.folder_tells s.files s.disk_tells s.file s.entry s.exit repo moment answer → (code ≡ 0) ⊎ (code ≡ 1)
+    by : (answer : Result (List ℕ) RunRefusal) → IsTold tells before after faults now (running answer) code → Runs s.folder_tells s.files s.disk_tells s.seen s.entry s.exit repo moment answer → (code ≡ 0) ⊎ (code ≡ 1)
     by (Ok text) (inl w) runs = inl w.status
     by (Ok text) (inr p) runs = absurd (still p.rose)
     by (Err (of_run.NotAJournal offset)) r runs = absurd (free.whole offset (runs.refused t d))
@@ -176,17 +176,17 @@ run_complete s repo moment tells before after faults now code Folds Disks end t 
 
 -- a run whose refusal has this cause
 pub run_exactly : (s : Sight) (repo : List ℕ) (moment : ℕ) (tells : Type 0) (before after : List ℕ) (faults now code : ℕ) → IsRunEnd s repo moment tells before after faults now code → s.folder_tells → s.disk_tells
-    → (error : RunError) → IsRefusedIn s.files repo moment 268435456 s.file error → IsRunCauseOr repo s.file error code
+    → (error : RunError) → IsRefusedIn s.files repo moment 268435456 s.seen error → IsRunCauseOr repo s.seen error code
 run_exactly s repo moment tells before after faults now code end t d error cause = by end.answer end.told end.runs
   where
-    one : (e : RunError) → IsRefusedIn s.files repo moment 268435456 s.file e → code ≡ error_status e → IsRunCauseOr repo s.file error code
-    one e refused is = inl (is ∙ ap error_status (refused_one s.files repo moment 268435456 s.file e error refused cause))
+    one : (e : RunError) → IsRefusedIn s.files repo moment 268435456 s.seen e → code ≡ error_status e → IsRunCauseOr repo s.seen error code
+    one e refused is = inl (is ∙ ap error_status (refused_one s.files repo moment 268435456 s.seen e error refused cause))
 
-    by : (answer : Result (List ℕ) RunRefusal) → IsTold tells before after faults now (running answer) code → Runs s.folder_tells s.files s.disk_tells s.file s.entry s.exit repo moment answer → IsRunCauseOr repo s.file error code
-    by (Ok text) told runs = absurd (run_unrefused s.folder_tells s.files repo moment 268435456 s.file s.entry s.exit text error t (runs.done d) cause)
-    by (Err (of_run.NotAJournal offset)) r runs = absurd (stored_whole 268435456 s.file cause.old offset cause.stored (runs.refused t d))
+    by : (answer : Result (List ℕ) RunRefusal) → IsTold tells before after faults now (running answer) code → Runs s.folder_tells s.files s.disk_tells s.seen s.entry s.exit repo moment answer → IsRunCauseOr repo s.seen error code
+    by (Ok text) told runs = absurd (run_unrefused s.folder_tells s.files repo moment 268435456 s.seen s.entry s.exit text error t (runs.done d) cause)
+    by (Err (of_run.NotAJournal offset)) r runs = absurd (stored_whole 268435456 s.seen cause.old offset cause.stored (runs.refused t d))
     by (Err (of_run.Ended run.Memory)) r runs = inr (inl r.status)
-    by (Err (of_run.Ended run.FolderFault)) r runs = inr (inr (inr (r.status, runs.file_told d)))
+    by (Err (of_run.Ended run.FolderFault)) r runs = inr (inr (inr (r.status, runs.image_told d)))
     by (Err (of_run.Ended run.DiskFault)) r runs = inr (inr (inl r.status))
     by (Err (of_run.Ended run.UnknownRepo)) r runs = one run.UnknownRepo (runs.refused t d) r.status
     by (Err (of_run.Ended (run.NotBuilt path))) r runs = one (run.NotBuilt path) (runs.refused t d) r.status

@@ -10,6 +10,7 @@ use Rattle.rnv_commands.specs.OnDisk.{HasImported, IsRefusedIn}
 use Rattle.rnv_commands.specs.declared.error.CommandError.{CommandError}
 use Rattle.rnv_commands.specs.declared.error.CommandError.TheVariants as command
 use Rattle.rnv_commands.proofs.Unique.{one_difference}
+use Rattle.rnv_disk.specs.Images.{Image}
 use Rattle.rnv_disk.specs.Stops.{Past}
 use Rattle.rnv_forge.specs.Files.{PathChange}
 use Rattle.rnv_forge.specs.declared.write.Write.{Write}
@@ -112,19 +113,19 @@ module _ (files : List NamedFile) (name : List ℕ) where
     number_is = room.number_is;
   })
 
-  pub no_import : (tells : Type 0) (file : List ℕ) (error : CommandError) → tells → IsCaused error → IsRefusedIn tells files name 268435456 file error → HasNoImport files name file error
-  no_import tells file error t caused refused =
+  pub no_import : (tells : Type 0) (image : Image) (error : CommandError) → tells → IsCaused error → IsRefusedIn tells files name 268435456 image error → HasNoImport files name image error
+  no_import tells image error t caused refused =
       record { caused = caused; refused = record { old = refused.old; stored = refused.stored; refused = refusal_under tells 268435456 refused.old error t caused refused.refused } }
 
-  -- an import that was done had no cause of a refusal in the file
-  pub import_fine : (tells : Type 0) (file : List ℕ) (past : Past) (text : List ℕ) (error : CommandError) → tells → HasImported tells files name 268435456 file past text → ¬ (HasNoImport files name file error)
-  import_fine tells file past text error t has none =
-      let same : none.refused.old ≡ has.old = one_stored 268435456 file none.refused.old has.old none.refused.stored has.stored in
+  -- an import that was done had no cause of a refusal in the image
+  pub import_fine : (tells : Type 0) (image : Image) (past : Past) (text : List ℕ) (error : CommandError) → tells → HasImported tells files name 268435456 image past text → ¬ (HasNoImport files name image error)
+  import_fine tells image past text error t has none =
+      let same : none.refused.old ≡ has.old = one_stored 268435456 image none.refused.old has.old none.refused.stored has.stored in
       done_fine has.old tells 268435456 has.imported.new error t has.imported.prints.import has.imported.room none.caused
       (subst (λ (ws : List Write). IsImportRefusal (Unit {0}) files name 268435456 ws error) same none.refused.refused)
 
-  -- two causes in one file have one status
-  pub import_one : (file : List ℕ) (e f : CommandError) → HasNoImport files name file e → HasNoImport files name file f → code_of (refusal_of e) ≡ code_of (refusal_of f)
-  import_one file e f a b =
-      let same : a.refused.old ≡ b.refused.old = one_stored 268435456 file a.refused.old b.refused.old a.refused.stored b.refused.stored in
+  -- two causes in one image have one status
+  pub import_one : (image : Image) (e f : CommandError) → HasNoImport files name image e → HasNoImport files name image f → code_of (refusal_of e) ≡ code_of (refusal_of f)
+  import_one image e f a b =
+      let same : a.refused.old ≡ b.refused.old = one_stored 268435456 image a.refused.old b.refused.old a.refused.stored b.refused.stored in
       one_status b.refused.old 268435456 e f a.caused b.caused (subst (λ (ws : List Write). IsImportRefusal (Unit {0}) files name 268435456 ws e) same a.refused.refused) b.refused.refused

@@ -21,12 +21,12 @@ use Rattle.rnv_app.specs.End.{code_of, refusal_of, IsTold}
 use Rattle.rnv_app.specs.Top.{refusing, running, HasNoImport, Imports, IsDamagedOr, IsFreeImport, IsFreeShow, IsImportCauseOr, IsImportEnd, IsLeftAlone, IsRunEnd, IsShowEnd, IsShowing, IsUnknownOr, LeavesNoStore, Sight}
 use Rattle.rnv_app.proofs.Imported.{import_fine, import_one, no_import}
 
--- ---- one file
+-- ---- one image
 
 -- a store lacks a repository or has it
-unknown_known : (repo : List ℕ) (limit : ℕ) (file : List ℕ) (ws : List Write) (r : Repo) → IsStored limit file ws → known repo (after ws []) ≡ Some r → ¬ (IsUnknownIn repo limit file)
-unknown_known repo limit file ws r stored there lacks =
-    let same : lacks.writes ≡ ws = one_stored limit file lacks.writes ws lacks.stored stored in
+unknown_known : (repo : List ℕ) (limit : ℕ) (image : Image) (ws : List Write) (r : Repo) → IsStored limit image ws → known repo (after ws []) ≡ Some r → ¬ (IsUnknownIn repo limit image)
+unknown_known repo limit image ws r stored there lacks =
+    let same : lacks.writes ≡ ws = one_stored limit image lacks.writes ws lacks.stored stored in
     let none : known repo (after ws []) ≡ None = subst (λ (vs : List Write). known repo (after vs []) ≡ None) same lacks.unknown in
     let both : None ≡ Some r = sym none ∙ there in
     absurd (cc both)
@@ -36,41 +36,41 @@ module _ (s : Sight) (repo : List ℕ) (out_tells : Type 0) (before after : List
   Told answer = IsTold out_tells before after faults now answer code
 
   -- a store is no damaged one
-  whole : (old : List Write) (offset : ℕ) → IsDamaged 268435456 s.file offset → IsStored 268435456 s.file old → IsDamagedOr code
-  whole old offset damaged stored = absurd (stored_whole 268435456 s.file old offset stored damaged)
+  whole : (old : List Write) (offset : ℕ) → IsDamaged 268435456 s.seen offset → IsStored 268435456 s.seen old → IsDamagedOr code
+  whole old offset damaged stored = absurd (stored_whole 268435456 s.seen old offset stored damaged)
 
   -- ---- import
 
   module _ (end : IsImportEnd s repo out_tells before after faults now code) (d : s.disk_tells) where
-    pub import_complete : s.folder_tells → (Folds Disks : Type 0) → IsFreeImport s.files repo s.file → (code ≡ 5 → Folds) → (code ≡ 7 → Disks) → ¬ Folds → ¬ Disks → ¬ (Rose faults now) → (code ≡ 0) ⊎ (code ≡ 1)
+    pub import_complete : s.folder_tells → (Folds Disks : Type 0) → IsFreeImport s.files repo s.seen → (code ≡ 5 → Folds) → (code ≡ 7 → Disks) → ¬ Folds → ¬ Disks → ¬ (Rose faults now) → (code ≡ 0) ⊎ (code ≡ 1)
     import_complete t Folds Disks free five seven folder disk still = by end.answer end.told end.imports
       where
         by : (answer : Result (List ℕ) CommandError) → Told (refusing answer) → Imports s repo answer → (code ≡ 0) ⊎ (code ≡ 1)
         by (Ok text) (inl w) is = inl w.status
         by (Ok text) (inr p) is = absurd (still p.rose)
         by (Err command.Memory) r is = inr r.status
-        by (Err command.UnknownRepo) r is = absurd (free.free command.UnknownRepo (no_import s.files repo s.folder_tells s.file command.UnknownRepo t tt (is.refused d)))
+        by (Err command.UnknownRepo) r is = absurd (free.free command.UnknownRepo (no_import s.files repo s.folder_tells s.seen command.UnknownRepo t tt (is.refused d)))
         by (Err command.FolderFault) r is = absurd (folder (five r.status))
         by (Err command.DiskFault) r is = absurd (disk (seven r.status))
         by (Err (command.NotAJournal offset)) r is = absurd (free.whole offset (is.refused d))
-        by (Err (command.Limit which number)) r is = absurd (free.free (command.Limit which number) (no_import s.files repo s.folder_tells s.file (command.Limit which number) t tt (is.refused d)))
+        by (Err (command.Limit which number)) r is = absurd (free.free (command.Limit which number) (no_import s.files repo s.folder_tells s.seen (command.Limit which number) t tt (is.refused d)))
 
-    pub import_exactly : s.folder_tells → (error : CommandError) → HasNoImport s.files repo s.file error → IsImportCauseOr error code
+    pub import_exactly : s.folder_tells → (error : CommandError) → HasNoImport s.files repo s.seen error → IsImportCauseOr error code
     import_exactly t error cause = by end.answer end.told end.imports
       where
-        one : (e : CommandError) → HasNoImport s.files repo s.file e → code ≡ code_of (refusal_of e) → IsImportCauseOr error code
-        one e refused is = inl (is ∙ import_one s.files repo s.file e error refused cause)
+        one : (e : CommandError) → HasNoImport s.files repo s.seen e → code ≡ code_of (refusal_of e) → IsImportCauseOr error code
+        one e refused is = inl (is ∙ import_one s.files repo s.seen e error refused cause)
 
         by : (answer : Result (List ℕ) CommandError) → Told (refusing answer) → Imports s repo answer → IsImportCauseOr error code
-        by (Ok text) told is = absurd (import_fine s.files repo s.folder_tells s.file s.exit text error t (is.imported d) cause)
+        by (Ok text) told is = absurd (import_fine s.files repo s.folder_tells s.seen s.exit text error t (is.imported d) cause)
         by (Err command.Memory) r is = inr (inl r.status)
-        by (Err command.UnknownRepo) r is = one command.UnknownRepo (no_import s.files repo s.folder_tells s.file command.UnknownRepo t tt (is.refused d)) r.status
+        by (Err command.UnknownRepo) r is = one command.UnknownRepo (no_import s.files repo s.folder_tells s.seen command.UnknownRepo t tt (is.refused d)) r.status
         by (Err command.FolderFault) r is = inr (inr (inr r.status))
         by (Err command.DiskFault) r is = inr (inr (inl r.status))
-        by (Err (command.NotAJournal offset)) r is = absurd (stored_whole 268435456 s.file cause.refused.old offset cause.refused.stored (is.refused d))
-        by (Err (command.Limit which number)) r is = one (command.Limit which number) (no_import s.files repo s.folder_tells s.file (command.Limit which number) t tt (is.refused d)) r.status
+        by (Err (command.NotAJournal offset)) r is = absurd (stored_whole 268435456 s.seen cause.refused.old offset cause.refused.stored (is.refused d))
+        by (Err (command.Limit which number)) r is = one (command.Limit which number) (no_import s.files repo s.folder_tells s.seen (command.Limit which number) t tt (is.refused d)) r.status
 
-    pub import_damaged : (offset : ℕ) → IsDamaged 268435456 s.file offset → IsDamagedOr code
+    pub import_damaged : (offset : ℕ) → IsDamaged 268435456 s.seen offset → IsDamagedOr code
     import_damaged offset damaged = by end.answer end.told end.imports
       where
         by : (answer : Result (List ℕ) CommandError) → Told (refusing answer) → Imports s repo answer → IsDamagedOr code
@@ -85,7 +85,7 @@ module _ (s : Sight) (repo : List ℕ) (out_tells : Type 0) (before after : List
   -- ---- show
 
   module _ (end : IsShowEnd s repo out_tells before after faults now code) (d : s.disk_tells) where
-    pub show_complete : (Disks : Type 0) → IsFreeShow repo s.file → (code ≡ 7 → Disks) → ¬ Disks → ¬ (Rose faults now) → (code ≡ 0) ⊎ (code ≡ 1)
+    pub show_complete : (Disks : Type 0) → IsFreeShow repo s.seen → (code ≡ 7 → Disks) → ¬ Disks → ¬ (Rose faults now) → (code ≡ 0) ⊎ (code ≡ 1)
     show_complete Disks free seven disk still = by end.answer end.told end.showing
       where
         by : (answer : Result (List ℕ) CommandError) → Told (refusing answer) → IsShowing s repo answer → (code ≡ 0) ⊎ (code ≡ 1)
@@ -98,11 +98,11 @@ module _ (s : Sight) (repo : List ℕ) (out_tells : Type 0) (before after : List
         by (Err (command.NotAJournal offset)) r is = absurd (free.whole offset (is.refused d))
         by (Err (command.Limit which number)) r is = absurd (is.refused d)
 
-    pub show_exactly : IsUnknownIn repo 268435456 s.file → IsUnknownOr code
+    pub show_exactly : IsUnknownIn repo 268435456 s.seen → IsUnknownOr code
     show_exactly lacks = by end.answer end.told end.showing
       where
-        shown : (text : List ℕ) → ¬ (IsShownOf repo 268435456 s.file text)
-        shown text has = unknown_known repo 268435456 s.file has.writes has.shows.repo has.stored has.shows.known lacks
+        shown : (text : List ℕ) → ¬ (IsShownOf repo 268435456 s.seen text)
+        shown text has = unknown_known repo 268435456 s.seen has.writes has.shows.repo has.stored has.shows.known lacks
 
         by : (answer : Result (List ℕ) CommandError) → Told (refusing answer) → IsShowing s repo answer → IsUnknownOr code
         by (Ok text) told is = absurd (shown text (is.shown d))
@@ -110,10 +110,10 @@ module _ (s : Sight) (repo : List ℕ) (out_tells : Type 0) (before after : List
         by (Err command.UnknownRepo) r is = inl r.status
         by (Err command.FolderFault) r is = absurd (is.refused d)
         by (Err command.DiskFault) r is = inr (inr r.status)
-        by (Err (command.NotAJournal offset)) r is = absurd (stored_whole 268435456 s.file lacks.writes offset lacks.stored (is.refused d))
+        by (Err (command.NotAJournal offset)) r is = absurd (stored_whole 268435456 s.seen lacks.writes offset lacks.stored (is.refused d))
         by (Err (command.Limit which number)) r is = absurd (is.refused d)
 
-    pub show_damaged : (offset : ℕ) → IsDamaged 268435456 s.file offset → IsDamagedOr code
+    pub show_damaged : (offset : ℕ) → IsDamaged 268435456 s.seen offset → IsDamagedOr code
     show_damaged offset damaged = by end.answer end.told end.showing
       where
         by : (answer : Result (List ℕ) CommandError) → Told (refusing answer) → IsShowing s repo answer → IsDamagedOr code
@@ -129,43 +129,43 @@ module _ (s : Sight) (repo : List ℕ) (out_tells : Type 0) (before after : List
 
   module _ (moment : ℕ) (end : IsRunEnd s repo moment out_tells before after faults now code) (d : s.disk_tells) where
     abbrev Ran : Result (List ℕ) RunRefusal → Type 0
-    Ran answer = Runs s.folder_tells s.files s.disk_tells s.file s.entry s.exit repo moment answer
+    Ran answer = Runs s.folder_tells s.files s.disk_tells s.seen s.entry s.exit repo moment answer
 
-    pub run_unknown : IsUnknownIn repo 268435456 s.file → IsUnknownOr code
+    pub run_unknown : IsUnknownIn repo 268435456 s.seen → IsUnknownOr code
     run_unknown lacks = by end.answer end.told end.runs
       where
-        there : HasRepo repo 268435456 s.file → IsUnknownOr code
-        there has = absurd (unknown_known repo 268435456 s.file has.old has.repo has.stored has.there lacks)
+        there : HasRepo repo 268435456 s.seen → IsUnknownOr code
+        there has = absurd (unknown_known repo 268435456 s.seen has.old has.repo has.stored has.there lacks)
 
         by : (answer : Result (List ℕ) RunRefusal) → Told (running answer) → Ran answer → IsUnknownOr code
         by (Ok text) told is =
             let has = is.done d in
-            absurd (unknown_known repo 268435456 s.file has.old has.leaves.done.run.repo has.stored has.leaves.done.run.there lacks)
-        by (Err (of_run.NotAJournal offset)) r is = absurd (stored_whole 268435456 s.file lacks.writes offset lacks.stored (is.file_told d))
+            absurd (unknown_known repo 268435456 s.seen has.old has.leaves.done.run.repo has.stored has.leaves.done.run.there lacks)
+        by (Err (of_run.NotAJournal offset)) r is = absurd (stored_whole 268435456 s.seen lacks.writes offset lacks.stored (is.image_told d))
         by (Err (of_run.Ended run.Memory)) r is = inr (inl r.status)
-        by (Err (of_run.Ended run.FolderFault)) r is = there (is.file_told d)
+        by (Err (of_run.Ended run.FolderFault)) r is = there (is.image_told d)
         by (Err (of_run.Ended run.DiskFault)) r is = inr (inr r.status)
         by (Err (of_run.Ended run.UnknownRepo)) r is = inl r.status
-        by (Err (of_run.Ended (run.NotBuilt path))) r is = there (is.file_told d)
-        by (Err (of_run.Ended (run.Limit which number))) r is = there (is.file_told d)
-        by (Err (of_run.Ended (run.IndexRefused path line))) r is = there (is.file_told d)
+        by (Err (of_run.Ended (run.NotBuilt path))) r is = there (is.image_told d)
+        by (Err (of_run.Ended (run.Limit which number))) r is = there (is.image_told d)
+        by (Err (of_run.Ended (run.IndexRefused path line))) r is = there (is.image_told d)
 
-    pub run_damaged : (offset : ℕ) → IsDamaged 268435456 s.file offset → IsDamagedOr code
+    pub run_damaged : (offset : ℕ) → IsDamaged 268435456 s.seen offset → IsDamagedOr code
     run_damaged offset damaged = by end.answer end.told end.runs
       where
-        there : HasRepo repo 268435456 s.file → IsDamagedOr code
+        there : HasRepo repo 268435456 s.seen → IsDamagedOr code
         there has = whole has.old offset damaged has.stored
 
         by : (answer : Result (List ℕ) RunRefusal) → Told (running answer) → Ran answer → IsDamagedOr code
         by (Ok text) told is = let has = is.done d in whole has.old offset damaged has.stored
         by (Err (of_run.NotAJournal at)) r is = inl r.status
         by (Err (of_run.Ended run.Memory)) r is = inr (inl r.status)
-        by (Err (of_run.Ended run.FolderFault)) r is = there (is.file_told d)
+        by (Err (of_run.Ended run.FolderFault)) r is = there (is.image_told d)
         by (Err (of_run.Ended run.DiskFault)) r is = inr (inr r.status)
-        by (Err (of_run.Ended run.UnknownRepo)) r is = let c = is.file_told d in whole c.writes offset damaged c.stored
-        by (Err (of_run.Ended (run.NotBuilt path))) r is = there (is.file_told d)
-        by (Err (of_run.Ended (run.Limit which number))) r is = there (is.file_told d)
-        by (Err (of_run.Ended (run.IndexRefused path line))) r is = there (is.file_told d)
+        by (Err (of_run.Ended run.UnknownRepo)) r is = let c = is.image_told d in whole c.writes offset damaged c.stored
+        by (Err (of_run.Ended (run.NotBuilt path))) r is = there (is.image_told d)
+        by (Err (of_run.Ended (run.Limit which number))) r is = there (is.image_told d)
+        by (Err (of_run.Ended (run.IndexRefused path line))) r is = there (is.image_told d)
 
 -- ---- what is left of a disk whose bytes are no store
 

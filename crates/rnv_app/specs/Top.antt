@@ -102,13 +102,13 @@ pub record IsNamed (words : List (List ℕ)) (files : List NamedFile) (before af
 
 -- import and show
 
--- What is told of the folder and of the disk: its file `Zero` before, what stops may leave before and after, and whether it is the
+-- What is told of the folder and of the disk: what a read gave of it before, what stops may leave before and after, and whether it is the
 -- one that was handed in.
 pub record Sight : Type 1 where
   pub folder_tells : Type 0
   pub files : List NamedFile
   pub disk_tells : Type 0
-  pub file : List ℕ
+  pub seen : Image
   pub entry : Past
   pub exit : Past
   pub same_disk : Type 0
@@ -119,14 +119,14 @@ pub record Sight : Type 1 where
 pub record Imports (s : Sight) (repo : List ℕ) (answer : Result (List ℕ) CommandError) : Type 0 where
   pub stops : HasReadingsNow 268435456 s.entry → ReadsOnly 268435456 s.entry s.exit (IsReadingOrImport s.folder_tells s.files repo 268435456 s.entry)
   pub unwritten : IfErr answer (λ error. error ≢ command.DiskFault → KeepsReadings 268435456 s.entry s.exit)
-  pub imported : s.disk_tells → IfOk answer (HasImported s.folder_tells s.files repo 268435456 s.file s.exit)
-  pub refused : s.disk_tells → IfErr answer (IsNotImported s.folder_tells s.files repo 268435456 s.file)
+  pub imported : s.disk_tells → IfOk answer (HasImported s.folder_tells s.files repo 268435456 s.seen s.exit)
+  pub refused : s.disk_tells → IfErr answer (IsNotImported s.folder_tells s.files repo 268435456 s.seen)
 
 -- What is shown of the disk, on which nothing is written.
 pub record IsShowing (s : Sight) (repo : List ℕ) (answer : Result (List ℕ) CommandError) : Type 0 where
   pub stops : KeepsReadings 268435456 s.entry s.exit
-  pub shown : s.disk_tells → IfOk answer (IsShownOf repo 268435456 s.file)
-  pub refused : s.disk_tells → IfErr answer (IsNotShown repo 268435456 s.file)
+  pub shown : s.disk_tells → IfOk answer (IsShownOf repo 268435456 s.seen)
+  pub refused : s.disk_tells → IfErr answer (IsNotShown repo 268435456 s.seen)
 
 -- the text of a command over the store, or its refusal as the program's
 abbrev pub refusing : Result (List ℕ) CommandError → Result (List ℕ) Refusal
@@ -156,12 +156,12 @@ running (Err refusal) = Err (run_refusal_of refusal)
 pub record IsRunEnd (s : Sight) (repo : List ℕ) (moment : ℕ) (out_tells : Type 0) (before after : List ℕ) (faults now : ℕ) (code : ℕ) : Type 0 where
   pub answer : Result (List ℕ) RunRefusal
   pub told : IsTold out_tells before after faults now (running answer) code
-  pub runs : Runs s.folder_tells s.files s.disk_tells s.file s.entry s.exit repo moment answer
+  pub runs : Runs s.folder_tells s.files s.disk_tells s.seen s.entry s.exit repo moment answer
 
--- the file of the disk is a store, and neither it nor the folder's files are the cause of a refusal of a run
-pub record IsFreeRun (files : List NamedFile) (repo : List ℕ) (moment : ℕ) (file : List ℕ) : Type 0 where
-  pub whole : (offset : ℕ) → ¬ (IsDamaged 268435456 file offset)
-  pub free : (error : RunError) → ¬ (IsRefusedIn files repo moment 268435456 file error)
+-- the image is a store, and neither it nor the folder's files are the cause of a refusal of a run
+pub record IsFreeRun (files : List NamedFile) (repo : List ℕ) (moment : ℕ) (image : Image) : Type 0 where
+  pub whole : (offset : ℕ) → ¬ (IsDamaged 268435456 image offset)
+  pub free : (error : RunError) → ¬ (IsRefusedIn files repo moment 268435456 image error)
 
 -- ---- causes of refusals over the store
 
@@ -174,26 +174,26 @@ IsCaused command.DiskFault = ⊥
 IsCaused (command.NotAJournal offset) = ⊥
 IsCaused (command.Limit which number) = Unit {0}
 
--- the store of a file, into which the import of a folder's files is refused for this: they are more than a base may have, there is none of
+-- the store of an image, into which the import of a folder's files is refused for this: they are more than a base may have, there is none of
 -- them, or the one write has no room
-pub record HasNoImport (files : List NamedFile) (repo : List ℕ) (file : List ℕ) (error : CommandError) : Type 0 where
+pub record HasNoImport (files : List NamedFile) (repo : List ℕ) (image : Image) (error : CommandError) : Type 0 where
   pub caused : IsCaused error
-  pub refused : IsImportRefusedIn (Unit {0}) files repo 268435456 file error
+  pub refused : IsImportRefusedIn (Unit {0}) files repo 268435456 image error
 
--- the file of the disk is a store, and neither it nor the folder's files are the cause of a refusal of an import
-pub record IsFreeImport (files : List NamedFile) (repo : List ℕ) (file : List ℕ) : Type 0 where
-  pub whole : (offset : ℕ) → ¬ (IsDamaged 268435456 file offset)
-  pub free : (error : CommandError) → ¬ (HasNoImport files repo file error)
+-- the image is a store, and neither it nor the folder's files are the cause of a refusal of an import
+pub record IsFreeImport (files : List NamedFile) (repo : List ℕ) (image : Image) : Type 0 where
+  pub whole : (offset : ℕ) → ¬ (IsDamaged 268435456 image offset)
+  pub free : (error : CommandError) → ¬ (HasNoImport files repo image error)
 
--- the file of the disk is a store, which does not lack the repository
-pub record IsFreeShow (repo file : List ℕ) : Type 0 where
-  pub whole : (offset : ℕ) → ¬ (IsDamaged 268435456 file offset)
-  pub known : ¬ (IsUnknownIn repo 268435456 file)
+-- the image is a store, which does not lack the repository
+pub record IsFreeShow (repo : List ℕ) (image : Image) : Type 0 where
+  pub whole : (offset : ℕ) → ¬ (IsDamaged 268435456 image offset)
+  pub known : ¬ (IsUnknownIn repo 268435456 image)
 
 -- What may come where this is the cause of a refusal in the store and the folder's files: its status; or before it want of memory, a
 -- fault of the disk, or one of the folder, for which the store has to have the repository.
-abbrev pub IsRunCauseOr : List ℕ → List ℕ → RunError → ℕ → Type 0
-IsRunCauseOr repo file error code = (code ≡ status_of error) ⊎ ((code ≡ 1) ⊎ ((code ≡ 7) ⊎ ((code ≡ 5) × HasRepo repo 268435456 file)))
+abbrev pub IsRunCauseOr : List ℕ → Image → RunError → ℕ → Type 0
+IsRunCauseOr repo image error code = (code ≡ status_of error) ⊎ ((code ≡ 1) ⊎ ((code ≡ 7) ⊎ ((code ≡ 5) × HasRepo repo 268435456 image)))
 
 -- the same of an import: its status; or before it want of memory, or a fault of the disk or of the folder
 abbrev pub IsImportCauseOr : CommandError → ℕ → Type 0
@@ -207,7 +207,7 @@ IsDamagedOr code = (code ≡ 8) ⊎ ((code ≡ 1) ⊎ (code ≡ 7))
 abbrev pub IsUnknownOr : ℕ → Type 0
 IsUnknownOr code = (code ≡ 3) ⊎ ((code ≡ 1) ⊎ (code ≡ 7))
 
--- What is left of a disk whose bytes are no store: a file that is no journal is not written to, and a journal loses no entry.
+-- What is left of a disk whose bytes are no store: bytes that are no journal are not written to, and a journal loses no entry.
 abbrev pub IsLeftAlone : ℕ → Image → Image → Past → Past → Type 0
 IsLeftAlone limit old new before now = (offset : ℕ) × LeavesRefused limit old new before now (start_damaged offset)
 
@@ -253,7 +253,7 @@ pub record IsForRun (s : Sight) (words : List (List ℕ)) (text : Result (List �
   pub asked : IsRun words repo now
   pub answer : Result (List ℕ) RunRefusal
   pub is : text ≡ running answer
-  pub runs : Runs s.folder_tells s.files s.disk_tells s.file s.entry s.exit repo now answer
+  pub runs : Runs s.folder_tells s.files s.disk_tells s.seen s.entry s.exit repo now answer
 
 pub record IsForNone (s : Sight) (words : List (List ℕ)) (text : Result (List ℕ) Refusal) : Type 0 where
   pub same : s.same_disk

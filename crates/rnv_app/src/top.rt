@@ -88,15 +88,15 @@ pub fn renovate<K: Sink, O: Folder, D: Disk>(
     ensures plan_alone { (repo : Items ℕ) (now : ℕ) → IsPlan words.now repo now → result.outside.disk ≡ outside.disk }
 
     // What an import makes of the store, and what is written of it.
-    ensures import { (repo : Items ℕ) → IsImport words.now repo → IsImportEnd (record { folder_tells = O.tells; files = O.files outside.folder; disk_tells = D.tells; file = (D.seen outside.disk).zero; entry = D.past outside.disk; exit = D.past result.outside.disk; same_disk = result.outside.disk ≡ outside.disk })
+    ensures import { (repo : Items ℕ) → IsImport words.now repo → IsImportEnd (record { folder_tells = O.tells; files = O.files outside.folder; disk_tells = D.tells; seen = D.seen outside.disk; entry = D.past outside.disk; exit = D.past result.outside.disk; same_disk = result.outside.disk ≡ outside.disk })
         repo K.tells (K.held outside.out) (K.held result.outside.out) (K.faults outside.out) (K.faults result.outside.out) result.status.code }
 
     // What is shown of the store, and what is written of it.
-    ensures show { (repo : Items ℕ) → IsShow words.now repo → IsShowEnd (record { folder_tells = O.tells; files = O.files outside.folder; disk_tells = D.tells; file = (D.seen outside.disk).zero; entry = D.past outside.disk; exit = D.past result.outside.disk; same_disk = result.outside.disk ≡ outside.disk })
+    ensures show { (repo : Items ℕ) → IsShow words.now repo → IsShowEnd (record { folder_tells = O.tells; files = O.files outside.folder; disk_tells = D.tells; seen = D.seen outside.disk; entry = D.past outside.disk; exit = D.past result.outside.disk; same_disk = result.outside.disk ≡ outside.disk })
         repo K.tells (K.held outside.out) (K.held result.outside.out) (K.faults outside.out) (K.faults result.outside.out) result.status.code }
 
     // What a run makes of the store, also from where an earlier run was stopped, and what is written of it.
-    ensures run { (repo : Items ℕ) (now : ℕ) → IsRun words.now repo now → IsRunEnd (record { folder_tells = O.tells; files = O.files outside.folder; disk_tells = D.tells; file = (D.seen outside.disk).zero; entry = D.past outside.disk; exit = D.past result.outside.disk; same_disk = result.outside.disk ≡ outside.disk })
+    ensures run { (repo : Items ℕ) (now : ℕ) → IsRun words.now repo now → IsRunEnd (record { folder_tells = O.tells; files = O.files outside.folder; disk_tells = D.tells; seen = D.seen outside.disk; entry = D.past outside.disk; exit = D.past result.outside.disk; same_disk = result.outside.disk ≡ outside.disk })
         repo now K.tells (K.held outside.out) (K.held result.outside.out) (K.faults outside.out) (K.faults result.outside.out) result.status.code }
 
     // File `One` of the disk is left alone, and so is what is no store, and the whole disk by words that ask for nothing.
@@ -105,18 +105,18 @@ pub fn renovate<K: Sink, O: Folder, D: Disk>(
     ensures usage_alone { result.status.code ≡ 2 → result.outside.disk ≡ outside.disk }
 
     // What a command over the store answers where it has no cause of a refusal and nothing fails.
-    ensures import_complete { (repo : Items ℕ) → IsImport words.now repo → O.tells → D.tells → IsFreeImport (O.files outside.folder) repo (D.seen outside.disk).zero → ¬ Rose (O.faults outside.folder) (O.faults result.outside.folder) → ¬ Rose (D.faults outside.disk) (D.faults result.outside.disk) → ¬ Rose (K.faults outside.out) (K.faults result.outside.out) → (result.status.code ≡ 0) ⊎ (result.status.code ≡ 1) }
-    ensures show_complete { (repo : Items ℕ) → IsShow words.now repo → D.tells → IsFreeShow repo (D.seen outside.disk).zero → ¬ Rose (D.faults outside.disk) (D.faults result.outside.disk) → ¬ Rose (K.faults outside.out) (K.faults result.outside.out) → (result.status.code ≡ 0) ⊎ (result.status.code ≡ 1) }
-    ensures run_complete { (repo : Items ℕ) (now : ℕ) → IsRun words.now repo now → O.tells → D.tells → IsFreeRun (O.files outside.folder) repo now (D.seen outside.disk).zero → ¬ Rose (O.faults outside.folder) (O.faults result.outside.folder) → ¬ Rose (D.faults outside.disk) (D.faults result.outside.disk) → ¬ Rose (K.faults outside.out) (K.faults result.outside.out) → (result.status.code ≡ 0) ⊎ (result.status.code ≡ 1) }
+    ensures import_complete { (repo : Items ℕ) → IsImport words.now repo → O.tells → D.tells → IsFreeImport (O.files outside.folder) repo (D.seen outside.disk) → ¬ Rose (O.faults outside.folder) (O.faults result.outside.folder) → ¬ Rose (D.faults outside.disk) (D.faults result.outside.disk) → ¬ Rose (K.faults outside.out) (K.faults result.outside.out) → (result.status.code ≡ 0) ⊎ (result.status.code ≡ 1) }
+    ensures show_complete { (repo : Items ℕ) → IsShow words.now repo → D.tells → IsFreeShow repo (D.seen outside.disk) → ¬ Rose (D.faults outside.disk) (D.faults result.outside.disk) → ¬ Rose (K.faults outside.out) (K.faults result.outside.out) → (result.status.code ≡ 0) ⊎ (result.status.code ≡ 1) }
+    ensures run_complete { (repo : Items ℕ) (now : ℕ) → IsRun words.now repo now → O.tells → D.tells → IsFreeRun (O.files outside.folder) repo now (D.seen outside.disk) → ¬ Rose (O.faults outside.folder) (O.faults result.outside.folder) → ¬ Rose (D.faults outside.disk) (D.faults result.outside.disk) → ¬ Rose (K.faults outside.out) (K.faults result.outside.out) → (result.status.code ≡ 0) ⊎ (result.status.code ≡ 1) }
 
     // Each cause of its refusal, but for want of memory or a fault before it. First that the bytes are no store; then, but for an import,
     // that the store lacks the repository; then of an import and of a run the others. So a fault of the folder comes only where the bytes
     // are a store, and in a run where it has the repository.
-    ensures damaged { (repo : Items ℕ) → IsOfStore words.now repo → D.tells → (offset : ℕ) → IsDamaged 268435456 (D.seen outside.disk).zero offset → IsDamagedOr result.status.code }
-    ensures import_exactly { (repo : Items ℕ) → IsImport words.now repo → O.tells → D.tells → (error : StoreError) → HasNoImport (O.files outside.folder) repo (D.seen outside.disk).zero error → IsImportCauseOr error result.status.code }
-    ensures show_exactly { (repo : Items ℕ) → IsShow words.now repo → D.tells → IsUnknownIn repo 268435456 (D.seen outside.disk).zero → IsUnknownOr result.status.code }
-    ensures run_unknown { (repo : Items ℕ) (now : ℕ) → IsRun words.now repo now → D.tells → IsUnknownIn repo 268435456 (D.seen outside.disk).zero → IsUnknownOr result.status.code }
-    ensures run_exactly { (repo : Items ℕ) (now : ℕ) → IsRun words.now repo now → O.tells → D.tells → (error : Error) → IsRefusedIn (O.files outside.folder) repo now 268435456 (D.seen outside.disk).zero error → IsRunCauseOr repo (D.seen outside.disk).zero error result.status.code }
+    ensures damaged { (repo : Items ℕ) → IsOfStore words.now repo → D.tells → (offset : ℕ) → IsDamaged 268435456 (D.seen outside.disk) offset → IsDamagedOr result.status.code }
+    ensures import_exactly { (repo : Items ℕ) → IsImport words.now repo → O.tells → D.tells → (error : StoreError) → HasNoImport (O.files outside.folder) repo (D.seen outside.disk) error → IsImportCauseOr error result.status.code }
+    ensures show_exactly { (repo : Items ℕ) → IsShow words.now repo → D.tells → IsUnknownIn repo 268435456 (D.seen outside.disk) → IsUnknownOr result.status.code }
+    ensures run_unknown { (repo : Items ℕ) (now : ℕ) → IsRun words.now repo now → D.tells → IsUnknownIn repo 268435456 (D.seen outside.disk) → IsUnknownOr result.status.code }
+    ensures run_exactly { (repo : Items ℕ) (now : ℕ) → IsRun words.now repo now → O.tells → D.tells → (error : Error) → IsRefusedIn (O.files outside.folder) repo now 268435456 (D.seen outside.disk) error → IsRunCauseOr repo (D.seen outside.disk) error result.status.code }
 
     ensures same { O.tells → (O.files result.outside.folder ≡ O.files outside.folder) }
     ensures folder_later { O.faults outside.folder ≤ O.faults result.outside.folder }
@@ -150,7 +150,7 @@ fn answer_to<O: Folder, D: Disk>(
     folder: &mut O,
     disk: D,
 ) -> Answered<D>
-    ensures answered { IsAnswered (record { folder_tells = O.tells; files = O.files folder.old; disk_tells = D.tells; file = (D.seen disk).zero; entry = D.past disk; exit = D.past result.disk; same_disk = result.disk ≡ disk }) words.now result.text }
+    ensures answered { IsAnswered (record { folder_tells = O.tells; files = O.files folder.old; disk_tells = D.tells; seen = D.seen disk; entry = D.past disk; exit = D.past result.disk; same_disk = result.disk ≡ disk }) words.now result.text }
     ensures other { KeepsOne (D.past disk) (D.past result.disk) }
     ensures left { D.tells → IfErr result.text (LeavesNoStore 268435456 (D.seen disk) (D.seen result.disk) (D.past disk) (D.past result.disk)) }
     ensures same { O.tells → (O.files folder.new ≡ O.files folder.old) }
@@ -201,7 +201,7 @@ fn import_for<O: Folder, D: Disk>(
     repo: &Text,
 ) -> Answered<D>
     requires { IsImport words.now repo.now }
-    ensures answered { IsForImport (record { folder_tells = O.tells; files = O.files folder.old; disk_tells = D.tells; file = (D.seen disk).zero; entry = D.past disk; exit = D.past result.disk; same_disk = result.disk ≡ disk }) words.now result.text }
+    ensures answered { IsForImport (record { folder_tells = O.tells; files = O.files folder.old; disk_tells = D.tells; seen = D.seen disk; entry = D.past disk; exit = D.past result.disk; same_disk = result.disk ≡ disk }) words.now result.text }
     ensures other { KeepsOne (D.past disk) (D.past result.disk) }
     ensures left { D.tells → IfErr result.text (LeavesNoStore 268435456 (D.seen disk) (D.seen result.disk) (D.past disk) (D.past result.disk)) }
     ensures same { O.tells → (O.files folder.new ≡ O.files folder.old) }
@@ -235,7 +235,7 @@ fn run_for<O: Folder, D: Disk>(
     now: u64,
 ) -> Answered<D>
     requires { IsRun words.now repo.now now }
-    ensures answered { IsForRun (record { folder_tells = O.tells; files = O.files folder.old; disk_tells = D.tells; file = (D.seen disk).zero; entry = D.past disk; exit = D.past result.disk; same_disk = result.disk ≡ disk }) words.now result.text }
+    ensures answered { IsForRun (record { folder_tells = O.tells; files = O.files folder.old; disk_tells = D.tells; seen = D.seen disk; entry = D.past disk; exit = D.past result.disk; same_disk = result.disk ≡ disk }) words.now result.text }
     ensures other { KeepsOne (D.past disk) (D.past result.disk) }
     ensures left { D.tells → IfErr result.text (LeavesNoStore 268435456 (D.seen disk) (D.seen result.disk) (D.past disk) (D.past result.disk)) }
     ensures same { O.tells → (O.files folder.new ≡ O.files folder.old) }
@@ -259,7 +259,7 @@ fn show_for<O: Folder, D: Disk>(
     repo: &Text,
 ) -> Answered<D>
     requires { IsShow words.now repo.now }
-    ensures answered { IsForShow (record { folder_tells = O.tells; files = O.files folder.old; disk_tells = D.tells; file = (D.seen disk).zero; entry = D.past disk; exit = D.past result.disk; same_disk = result.disk ≡ disk }) words.now result.text }
+    ensures answered { IsForShow (record { folder_tells = O.tells; files = O.files folder.old; disk_tells = D.tells; seen = D.seen disk; entry = D.past disk; exit = D.past result.disk; same_disk = result.disk ≡ disk }) words.now result.text }
     ensures other { KeepsOne (D.past disk) (D.past result.disk) }
     ensures left { D.tells → IfErr result.text (LeavesNoStore 268435456 (D.seen disk) (D.seen result.disk) (D.past disk) (D.past result.disk)) }
     ensures same { folder.new ≡ folder.old }

@@ -3,6 +3,7 @@ use Rattle.std.proofs.Common.{◌≡◌, ◌⊎◌, ◌≤◌, inl, inr, ℕ, Li
 use Rattle.rnv_disk.specs.Images.{Image}
 use Rattle.rnv_disk.specs.Stops.{LeavesOnly, Past}
 use Rattle.rnv_forge.specs.declared.write.Write.{Write}
+use Rattle.rnv_journal.proofs.Uses.{each_weaker}
 use Rattle.rnv_journal.specs.Reading.{EachReading}
 use Rattle.rnv_journal.specs.Readings.{HasReadingsNow, IsReadingNow, KeepsReadings, ReadsOnly}
 use Rattle.rnv_payload.specs.Spelling.{spelling}
@@ -11,9 +12,6 @@ use Rattle.rnv_commands.proofs.Stops.{leaves_at}
 use Rattle.rnv_run.specs.Begun.{BeginsOrStays, LeavesOf, LeftOf}
 use Rattle.rnv_run.specs.Begun.LeftOf.{begun, kept}
 use Rattle.rnv_run.specs.Front.{IsFront, SpellsFront}
-
-pub each_weaker : (limit : ℕ) (P Q : List (List ℕ) → Type 0) (file : List ℕ) → ((list : List (List ℕ)) → P list → Q list) → EachReading limit P file → EachReading limit Q file
-each_weaker limit P Q file f h = record { some = h.some; each = λ list reading. f list (h.each list reading) }
 
 module _ (limit : ℕ) (over : List Write → List Write → Type 0) where
   pub begins_later : (entry exit : Past) (old : List Write) → BeginsOrStays limit over entry exit old → entry.moment ≤ exit.moment
@@ -40,7 +38,7 @@ module _ (limit : ℕ) (over : List Write → List Write → Type 0) where
         since_then : (t : ℕ) (c : Image) → t ≤ entry.moment → mid.left t c ⊎ R c → entry.left t c ⊎ LeftOf limit over entry c
         since_then t c le (inl left) = and_then (first.before t c le left)
           where
-            and_then : entry.left t c ⊎ EachReading limit (IsReadingNow limit entry) c.zero → entry.left t c ⊎ LeftOf limit over entry c
+            and_then : entry.left t c ⊎ EachReading limit (IsReadingNow limit entry) c → entry.left t c ⊎ LeftOf limit over entry c
             and_then (inl before) = inl before
             and_then (inr reads) = inr (kept reads)
         since_then t c le (inr r) = inr (into c r)
@@ -53,8 +51,8 @@ module _ (limit : ℕ) (over : List Write → List Write → Type 0) where
         same list s = subst (IsReadingNow limit entry) (sym (s.spelled.spells ∙ ap (map spelling) s.each)) reading
 
         by : BeginsOrStays limit over mid exit old → LeavesOnly entry exit (LeftOf limit over entry)
-        by (inl stays) = join (λ c. EachReading limit (SpellSome (λ ws. ws ≡ old)) c.zero) (λ c r. kept (each_weaker limit (SpellSome (λ ws. ws ≡ old)) (IsReadingNow limit entry) c.zero same r)) (keeps some) stays
-        by (inr begins) = join (λ c. EachReading limit (SpellsFront old begins.0 0) c.zero) (λ c r. begun old begins.0 reading begins.1 r) (keeps some) begins.2
+        by (inl stays) = join (λ c. EachReading limit (SpellSome (λ ws. ws ≡ old)) c) (λ c r. kept (each_weaker limit (SpellSome (λ ws. ws ≡ old)) (IsReadingNow limit entry) same c r)) (keeps some) stays
+        by (inr begins) = join (λ c. EachReading limit (SpellsFront old begins.0 0) c) (λ c r. begun old begins.0 reading begins.1 r) (keeps some) begins.2
 
     -- the same where only a disk that is told has that reading
     pub told_call : (tells : Type 0) (old : List Write) → KeepsReadings limit entry mid → (tells → IsReadingNow limit entry (map spelling old)) → ((t : ℕ) (c : Image) → exit.left t c → tells) → BeginsOrStays limit over mid exit old
@@ -75,6 +73,6 @@ module _ (limit : ℕ) (over : List Write → List Write → Type 0) where
         before = λ t c le left. by t c (run.before t c le left);
       }
     where
-      by : (t : ℕ) (c : Image) → entry.left t c ⊎ EachReading limit (IsReadingNow limit entry) c.zero → entry.left t c ⊎ LeftOf limit over entry c
+      by : (t : ℕ) (c : Image) → entry.left t c ⊎ EachReading limit (IsReadingNow limit entry) c → entry.left t c ⊎ LeftOf limit over entry c
       by t c (inl before) = inl before
       by t c (inr reads) = inr (kept reads)

@@ -31,7 +31,7 @@ use Rattle.rnv_run.specs.declared.on_disk.RunRefusal.{RunRefusal}
 use Rattle.rnv_run.specs.declared.on_disk.RunRefusal.TheVariants.{Ended, NotAJournal}
 use Rattle.rnv_run.specs.Begun.{BeginsOrStays}
 use Rattle.rnv_run.specs.Front.{IsFront, SpellsFront}
-use Rattle.rnv_run.specs.OnDisk.{ended, IsBegun, IsFinished, IsNotRun, IsOfFile, IsRefusedIn, IsStartRefusal, LeavesNoStore, LeavesRun, ReadsFront, Runs}
+use Rattle.rnv_run.specs.OnDisk.{ended, IsBegun, IsFinished, IsNotRun, IsOfImage, IsRefusedIn, IsStartRefusal, LeavesNoStore, LeavesRun, ReadsFront, Runs}
 use Rattle.rnv_run.specs.Repository.{IfCaused, IsOfRepo, IsRepoRefusal, IsRun, IsRunDone}
 use Rattle.rnv_run.specs.Run.{IsResumed, IsStoppedRun, LeavesOutcome}
 use Rattle.rnv_run.specs.Text.{PrintsRun}
@@ -147,34 +147,34 @@ ok_ended : (r : Result (List ℕ) RunError) (P Q : List ℕ → Type 0) → ((te
 ok_ended (Ok text) P Q f p = f text p
 ok_ended (Err e) P Q f p = tt
 
-caused_in : (files : List NamedFile) (name : List ℕ) (moment limit : ℕ) (file : List ℕ) (old : List Write) → IsStored limit file old → (error : RunError) → IfCaused (IsRepoRefusal files name moment limit old) error
-    → IfCaused (IsRefusedIn files name moment limit file) error
-caused_in files name moment limit file old stored Memory r = tt
-caused_in files name moment limit file old stored FolderFault r = tt
-caused_in files name moment limit file old stored DiskFault r = tt
-caused_in files name moment limit file old stored UnknownRepo r = record { old = old; stored = stored; cause = r }
-caused_in files name moment limit file old stored (NotBuilt path) r = record { old = old; stored = stored; cause = r }
-caused_in files name moment limit file old stored (Limit which number) r = record { old = old; stored = stored; cause = r }
-caused_in files name moment limit file old stored (IndexRefused path line) r = record { old = old; stored = stored; cause = r }
+caused_in : (files : List NamedFile) (name : List ℕ) (moment limit : ℕ) (image : Image) (old : List Write) → IsStored limit image old → (error : RunError) → IfCaused (IsRepoRefusal files name moment limit old) error
+    → IfCaused (IsRefusedIn files name moment limit image) error
+caused_in files name moment limit image old stored Memory r = tt
+caused_in files name moment limit image old stored FolderFault r = tt
+caused_in files name moment limit image old stored DiskFault r = tt
+caused_in files name moment limit image old stored UnknownRepo r = record { old = old; stored = stored; cause = r }
+caused_in files name moment limit image old stored (NotBuilt path) r = record { old = old; stored = stored; cause = r }
+caused_in files name moment limit image old stored (Limit which number) r = record { old = old; stored = stored; cause = r }
+caused_in files name moment limit image old stored (IndexRefused path line) r = record { old = old; stored = stored; cause = r }
 
-refused_ended : (r : Result (List ℕ) RunError) (files : List NamedFile) (name : List ℕ) (moment limit : ℕ) (file : List ℕ) (old : List Write) → IsStored limit file old → IfErr r (IfCaused (IsRepoRefusal files name moment limit old))
-    → IfErr (ended r) (IsNotRun files name moment limit file)
-refused_ended (Ok text) files name moment limit file old stored r = tt
-refused_ended (Err e) files name moment limit file old stored r = caused_in files name moment limit file old stored e r
+refused_ended : (r : Result (List ℕ) RunError) (files : List NamedFile) (name : List ℕ) (moment limit : ℕ) (image : Image) (old : List Write) → IsStored limit image old → IfErr r (IfCaused (IsRepoRefusal files name moment limit old))
+    → IfErr (ended r) (IsNotRun files name moment limit image)
+refused_ended (Ok text) files name moment limit image old stored r = tt
+refused_ended (Err e) files name moment limit image old stored r = caused_in files name moment limit image old stored e r
 
--- what a refusal tells of the file
-of_file : (name : List ℕ) (limit : ℕ) (file : List ℕ) (old : List Write) → IsStored limit file old → (error : RunError) → IsOfRepo name old error → IsOfFile name limit file (Ended error)
-of_file name limit file old stored Memory u = tt
-of_file name limit file old stored FolderFault u = record { old = old; stored = stored; repo = u.repo; there = u.there }
-of_file name limit file old stored DiskFault u = tt
-of_file name limit file old stored UnknownRepo u = record { writes = old; stored = stored; unknown = u }
-of_file name limit file old stored (NotBuilt path) u = record { old = old; stored = stored; repo = u.repo; there = u.there }
-of_file name limit file old stored (Limit which number) u = record { old = old; stored = stored; repo = u.repo; there = u.there }
-of_file name limit file old stored (IndexRefused path line) u = record { old = old; stored = stored; repo = u.repo; there = u.there }
+-- what a refusal tells of the image
+of_image : (name : List ℕ) (limit : ℕ) (image : Image) (old : List Write) → IsStored limit image old → (error : RunError) → IsOfRepo name old error → IsOfImage name limit image (Ended error)
+of_image name limit image old stored Memory u = tt
+of_image name limit image old stored FolderFault u = record { old = old; stored = stored; repo = u.repo; there = u.there }
+of_image name limit image old stored DiskFault u = tt
+of_image name limit image old stored UnknownRepo u = record { writes = old; stored = stored; unknown = u }
+of_image name limit image old stored (NotBuilt path) u = record { old = old; stored = stored; repo = u.repo; there = u.there }
+of_image name limit image old stored (Limit which number) u = record { old = old; stored = stored; repo = u.repo; there = u.there }
+of_image name limit image old stored (IndexRefused path line) u = record { old = old; stored = stored; repo = u.repo; there = u.there }
 
-ended_file : (r : Result (List ℕ) RunError) (name : List ℕ) (limit : ℕ) (file : List ℕ) (old : List Write) → IsStored limit file old → IfErr r (IsOfRepo name old) → IfErr (ended r) (IsOfFile name limit file)
-ended_file (Ok text) name limit file old stored u = tt
-ended_file (Err e) name limit file old stored u = of_file name limit file old stored e u
+ended_image : (r : Result (List ℕ) RunError) (name : List ℕ) (limit : ℕ) (image : Image) (old : List Write) → IsStored limit image old → IfErr r (IsOfRepo name old) → IfErr (ended r) (IsOfImage name limit image)
+ended_image (Ok text) name limit image old stored u = tt
+ended_image (Err e) name limit image old stored u = of_image name limit image old stored e u
 
 -- a run behind a start leaves no disk whose bytes are no store
 pub ended_left : (r : Result (List ℕ) RunError) (answer : Result (List ℕ) RunRefusal) → answer ≡ ended r → (limit : ℕ) (old new : Image) (before now : Past) → IfErr answer (LeavesNoStore limit old new before now)
@@ -184,8 +184,8 @@ ended_left r answer is limit old new before now = subst (λ (a : Result (List �
     by (Ok text) = tt
     by (Err e) = tt
 
-module _ (folder_tells disk_tells : Type 0) (files : List NamedFile) (file : List ℕ) (entry mid exit : Past) (name : List ℕ) (moment : ℕ) (old : List Write) (r : Result (List ℕ) RunError)
-    (keeps : KeepsReadings 268435456 entry mid) (reading : disk_tells → IsReadingNow 268435456 entry (map spelling old)) (stored : disk_tells → IsStored 268435456 file old)
+module _ (folder_tells disk_tells : Type 0) (files : List NamedFile) (image : Image) (entry mid exit : Past) (name : List ℕ) (moment : ℕ) (old : List Write) (r : Result (List ℕ) RunError)
+    (keeps : KeepsReadings 268435456 entry mid) (reading : disk_tells → IsReadingNow 268435456 entry (map spelling old)) (stored : disk_tells → IsStored 268435456 image old)
     (told : (t : ℕ) (c : Image) → exit.left t c → disk_tells) (fits : AllByRecursion IsWellFormed old) (any : BeginsOrStays 268435456 (IsRun folder_tells files name moment) mid exit old)
     (unknown : IfErr r (IsOfRepo name old))
     (unwritten : IfErr r (λ error. error ≢ DiskFault → LeavesWrites 268435456 mid exit (λ ws. ws ≡ old))) (ran : IfOk r (LeavesRun folder_tells files name moment 268435456 old exit))
@@ -207,7 +207,7 @@ module _ (folder_tells disk_tells : Type 0) (files : List NamedFile) (file : Lis
   kept_unwritten (Ok text) u = tt
   kept_unwritten (Err e) u = λ ne. keeps_still 268435456 disk_tells entry mid exit old keeps reading told (u (λ same. ne (ap Ended same)))
 
-  pub runs_of : Runs folder_tells files disk_tells file entry exit name moment (ended r)
+  pub runs_of : Runs folder_tells files disk_tells image entry exit name moment (ended r)
   runs_of = record {
     begins = told_call 268435456 over entry mid exit disk_tells old keeps reading told any;
     stops = λ start first g least t begun reads.
@@ -222,52 +222,52 @@ module _ (folder_tells disk_tells : Type 0) (files : List NamedFile) (file : Lis
         ok_ended r _ _ (λ text h. record { old = old; stored = stored d; reading = reading d; finished = h }) (resumed t start first g (take f.count W) (drop f.count W) (wished start first g begun) (stopped_at name start first g least old begun.there f));
     unwritten = kept_unwritten r unwritten;
     done = λ d. ok_ended r _ _ (λ text leaves. record { old = old; stored = stored d; reading = reading d; leaves = leaves }) ran;
-    refused = λ t d. refused_ended r files name moment 268435456 file old (stored d) (refused t);
-    file_told = λ d. ended_file r name 268435456 file old (stored d) unknown;
+    refused = λ t d. refused_ended r files name moment 268435456 image old (stored d) (refused t);
+    image_told = λ d. ended_image r name 268435456 image old (stored d) unknown;
   }
 
 -- the same of an answer that is this one
-pub runs_as : (folder_tells : Type 0) (files : List NamedFile) (disk_tells : Type 0) (file : List ℕ) (entry exit : Past) (name : List ℕ) (moment : ℕ) (answer other : Result (List ℕ) RunRefusal) → answer ≡ other
-    → Runs folder_tells files disk_tells file entry exit name moment other → Runs folder_tells files disk_tells file entry exit name moment answer
-runs_as folder_tells files disk_tells file entry exit name moment answer other same runs = subst (Runs folder_tells files disk_tells file entry exit name moment) (sym same) runs
+pub runs_as : (folder_tells : Type 0) (files : List NamedFile) (disk_tells : Type 0) (image : Image) (entry exit : Past) (name : List ℕ) (moment : ℕ) (answer other : Result (List ℕ) RunRefusal) → answer ≡ other
+    → Runs folder_tells files disk_tells image entry exit name moment other → Runs folder_tells files disk_tells image entry exit name moment answer
+runs_as folder_tells files disk_tells image entry exit name moment answer other same runs = subst (Runs folder_tells files disk_tells image entry exit name moment) (sym same) runs
 
 -- a start that was refused
-start_refused : (files : List NamedFile) (name : List ℕ) (moment limit : ℕ) (file : List ℕ) (error : StartError) (refusal : RunRefusal) → IsStartRefusal error refusal → IsStoreRefusal limit file error → IsNotRun files name moment limit file refusal
-start_refused files name moment limit file start_fault refusal is r = subst (IsNotRun files name moment limit file) (sym is) tt
-start_refused files name moment limit file (start_damaged offset) refusal is r = subst (IsNotRun files name moment limit file) (sym is) r
-start_refused files name moment limit file start_memory refusal is r = subst (IsNotRun files name moment limit file) (sym is) tt
+start_refused : (files : List NamedFile) (name : List ℕ) (moment limit : ℕ) (image : Image) (error : StartError) (refusal : RunRefusal) → IsStartRefusal error refusal → IsStoreRefusal limit image error → IsNotRun files name moment limit image refusal
+start_refused files name moment limit image start_fault refusal is r = subst (IsNotRun files name moment limit image) (sym is) tt
+start_refused files name moment limit image (start_damaged offset) refusal is r = subst (IsNotRun files name moment limit image) (sym is) r
+start_refused files name moment limit image start_memory refusal is r = subst (IsNotRun files name moment limit image) (sym is) tt
 
-start_file : (name : List ℕ) (limit : ℕ) (file : List ℕ) (error : StartError) (refusal : RunRefusal) → IsStartRefusal error refusal → IsStoreRefusal limit file error → IsOfFile name limit file refusal
-start_file name limit file start_fault refusal is r = subst (IsOfFile name limit file) (sym is) tt
-start_file name limit file (start_damaged offset) refusal is r = subst (IsOfFile name limit file) (sym is) r
-start_file name limit file start_memory refusal is r = subst (IsOfFile name limit file) (sym is) tt
+start_image : (name : List ℕ) (limit : ℕ) (image : Image) (error : StartError) (refusal : RunRefusal) → IsStartRefusal error refusal → IsStoreRefusal limit image error → IsOfImage name limit image refusal
+start_image name limit image start_fault refusal is r = subst (IsOfImage name limit image) (sym is) tt
+start_image name limit image (start_damaged offset) refusal is r = subst (IsOfImage name limit image) (sym is) r
+start_image name limit image start_memory refusal is r = subst (IsOfImage name limit image) (sym is) tt
 
 pub start_left : (limit : ℕ) (old new : Image) (before now : Past) (error : StartError) (refusal : RunRefusal) → IsStartRefusal error refusal → LeavesRefused limit old new before now error → LeavesNoStore limit old new before now refusal
 start_left limit old new before now start_fault refusal is left = subst (LeavesNoStore limit old new before now) (sym is) tt
 start_left limit old new before now (start_damaged offset) refusal is left = subst (LeavesNoStore limit old new before now) (sym is) left
 start_left limit old new before now start_memory refusal is left = subst (LeavesNoStore limit old new before now) (sym is) tt
 
-pub runs_refused : (folder_tells : Type 0) (files : List NamedFile) (disk_tells : Type 0) (file : List ℕ) (entry exit : Past) (name : List ℕ) (moment : ℕ) (error : StartError) (refusal : RunRefusal) → KeepsReadings 268435456 entry exit
-    → IsStartRefusal error refusal → (disk_tells → IsStoreRefusal 268435456 file error) → Runs folder_tells files disk_tells file entry exit name moment (Err refusal)
-runs_refused folder_tells files disk_tells file entry exit name moment error refusal keeps is r = record {
+pub runs_refused : (folder_tells : Type 0) (files : List NamedFile) (disk_tells : Type 0) (image : Image) (entry exit : Past) (name : List ℕ) (moment : ℕ) (error : StartError) (refusal : RunRefusal) → KeepsReadings 268435456 entry exit
+    → IsStartRefusal error refusal → (disk_tells → IsStoreRefusal 268435456 image error) → Runs folder_tells files disk_tells image entry exit name moment (Err refusal)
+runs_refused folder_tells files disk_tells image entry exit name moment error refusal keeps is r = record {
   begins = keeps_begins 268435456 (IsRun folder_tells files name moment) entry exit keeps;
   stops = λ start first g least t begun reads. kept_front 268435456 entry start (steps g first) least reads exit keeps;
   finished = λ start first g least t d begun reads. tt;
   unwritten = λ ne. keeps;
   done = λ d. tt;
-  refused = λ t d. start_refused files name moment 268435456 file error refusal is (r d);
-  file_told = λ d. start_file name 268435456 file error refusal is (r d);
+  refused = λ t d. start_refused files name moment 268435456 image error refusal is (r d);
+  image_told = λ d. start_image name 268435456 image error refusal is (r d);
 }
 
 -- nothing was done, for want of memory
-pub runs_none : (folder_tells : Type 0) (files : List NamedFile) (disk_tells : Type 0) (file : List ℕ) (entry exit : Past) (name : List ℕ) (moment : ℕ) → KeepsReadings 268435456 entry exit
-    → Runs folder_tells files disk_tells file entry exit name moment (Err (Ended Memory))
-runs_none folder_tells files disk_tells file entry exit name moment keeps = record {
+pub runs_none : (folder_tells : Type 0) (files : List NamedFile) (disk_tells : Type 0) (image : Image) (entry exit : Past) (name : List ℕ) (moment : ℕ) → KeepsReadings 268435456 entry exit
+    → Runs folder_tells files disk_tells image entry exit name moment (Err (Ended Memory))
+runs_none folder_tells files disk_tells image entry exit name moment keeps = record {
   begins = keeps_begins 268435456 (IsRun folder_tells files name moment) entry exit keeps;
   stops = λ start first g least t begun reads. kept_front 268435456 entry start (steps g first) least reads exit keeps;
   finished = λ start first g least t d begun reads. tt;
   unwritten = λ ne. keeps;
   done = λ t. tt;
   refused = λ t d. tt;
-  file_told = λ d. tt;
+  image_told = λ d. tt;
 }

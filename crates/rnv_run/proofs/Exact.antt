@@ -1,4 +1,4 @@
--- A run over a file is done or refused, and refused by one cause.
+-- A run over an image is done or refused, and refused by one cause.
 use Rattle.std.proofs.Common.{◌≡◌, ◌≤◌, ◌<◌, inl, inr, ℕ, List, [], ◌∷◌, ◌++◌, map, Some, None, refl, sym, ◌∙◌, ap, subst, arith}
 use Rattle.std.specs.List.{AllByRecursion}
 use Rattle.rnv_base.specs.Files.{NamedFile}
@@ -7,15 +7,14 @@ use Rattle.rnv_desired.specs.Givens.{IsGiven}
 use Rattle.rnv_desired.specs.Kept.{kept_updates}
 use Rattle.rnv_desired.proofs.Apart.{one_given}
 use Rattle.rnv_desired.proofs.Made.{not_many}
+use Rattle.rnv_disk.specs.Images.{Image}
 use Rattle.rnv_disk.specs.Stops.{Past}
 use Rattle.rnv_forge.specs.Files.{MarkedFile}
 use Rattle.rnv_forge.specs.Store.{ArePermitted, after, applied, known}
 use Rattle.rnv_forge.specs.WellFormed.{IsWellFormed}
 use Rattle.rnv_forge.specs.declared.repo.Repo.{Repo}
 use Rattle.rnv_forge.specs.declared.write.Write.{Write}
-use Rattle.rnv_journal.specs.Reading.{ReadsAs}
-use Rattle.rnv_journal.proofs.Each.{one_image}
-use Rattle.rnv_journal.proofs.Wrong.{image_made, wrong_unread}
+use Rattle.rnv_journal.proofs.Uses.{one_read, wrong_reads}
 use Rattle.rnv_outcome.specs.Given.{Given}
 use Rattle.rnv_outcome.specs.Steps.{steps}
 use Rattle.rnv_payload.specs.Spelling.{spelling}
@@ -30,16 +29,10 @@ use Rattle.rnv_run.specs.Repository.{IsBaseRefusal, IsRepoRefusal, IsRun, many_i
 use Rattle.rnv_run.proofs.Disks.{same_write, same_writes}
 use Rattle.rnv_run.proofs.Wanted.{given_under}
 
--- ---- a file has one store
+-- ---- an image has one store
 
-one_reads : (limit : ℕ) (file : List ℕ) (ps qs : List (List ℕ)) → ReadsAs limit file ps → ReadsAs limit file qs → ps ≡ qs
-one_reads limit file ps qs (inl m) (inl n) = m.1 ∙ sym n.1
-one_reads limit file ps qs (inl m) (inr n) = absurd (image_made limit file _ _ _ n.image m.0)
-one_reads limit file ps qs (inr m) (inl n) = absurd (image_made limit file _ _ _ m.image n.0)
-one_reads limit file ps qs (inr m) (inr n) = (one_image limit file ps qs _ _ _ _ m.image n.image).0
-
-pub one_stored : (limit : ℕ) (file : List ℕ) (a b : List Write) → IsStored limit file a → IsStored limit file b → a ≡ b
-one_stored limit file a b one two = same_writes a b one.well_formed two.well_formed (one_reads limit file (map spelling a) (map spelling b) one.read two.read)
+pub one_stored : (limit : ℕ) (image : Image) (a b : List Write) → IsStored limit image a → IsStored limit image b → a ≡ b
+one_stored limit image a b one two = same_writes a b one.well_formed two.well_formed (one_read limit image (map spelling a) (map spelling b) one.read two.read)
 
 -- behind the first of permitted writes no entry is damaged
 undamaged : (front old : List Write) (payload : List ℕ) (rest : List (List ℕ)) (store : List Repo) → AllByRecursion IsWellFormed front → AllByRecursion IsWellFormed old → ArePermitted old store → map spelling old ≡ map spelling front ++ payload ∷ rest
@@ -53,11 +46,11 @@ undamaged (v ∷ vs) (w ∷ ws) payload rest store a b permitted e none =
     let same : w ≡ v = same_write w v b.0 a.0 first in
     undamaged vs ws payload rest (applied v store) a.1 b.1 (subst (λ (x : Write). ArePermitted ws (applied x store)) same permitted.1) others none
 
-pub stored_whole : (limit : ℕ) (file : List ℕ) (old : List Write) (offset : ℕ) → IsStored limit file old → ¬ (IsDamaged limit file offset)
-stored_whole limit file old offset stored (inl wrong) = wrong_unread limit file offset (map spelling old) wrong stored.read
-stored_whole limit file old offset stored (inr at) =
+pub stored_whole : (limit : ℕ) (image : Image) (old : List Write) (offset : ℕ) → IsStored limit image old → ¬ (IsDamaged limit image offset)
+stored_whole limit image old offset stored (inl wrong) = wrong_reads limit image offset (map spelling old) wrong stored.read
+stored_whole limit image old offset stored (inr at) =
     let d = at.damaged in
-    undamaged d.front old d.payload d.rest [] d.well_formed stored.well_formed stored.permitted (one_reads limit file (map spelling old) at.payloads stored.read at.read ∙ d.is) d.no_write
+    undamaged d.front old d.payload d.rest [] d.well_formed stored.well_formed stored.permitted (one_read limit image (map spelling old) at.payloads stored.read at.read ∙ d.is) d.no_write
 
 -- ---- a base is given something, or refused by one cause
 
@@ -112,17 +105,17 @@ module _ (files : List NamedFile) (name : List ℕ) (moment limit : ℕ) (old : 
   repo_one e f (no_room ws run above a) (of_base repo there cause) = absurd (based repo f ws there cause run)
   repo_one e f (no_room ws run above a) (no_room ws' run' above' b) = a ∙ sym b
 
--- ---- a file
+-- ---- an image
 
-pub refused_one : (files : List NamedFile) (name : List ℕ) (moment limit : ℕ) (file : List ℕ) (e f : RunError) → IsRefusedIn files name moment limit file e → IsRefusedIn files name moment limit file f → e ≡ f
-refused_one files name moment limit file e f a b =
-    repo_one files name moment limit b.old e f (subst (λ (ws : List Write). IsRepoRefusal files name moment limit ws e) (one_stored limit file a.old b.old a.stored b.stored) a.cause) b.cause
+pub refused_one : (files : List NamedFile) (name : List ℕ) (moment limit : ℕ) (image : Image) (e f : RunError) → IsRefusedIn files name moment limit image e → IsRefusedIn files name moment limit image f → e ≡ f
+refused_one files name moment limit image e f a b =
+    repo_one files name moment limit b.old e f (subst (λ (ws : List Write). IsRepoRefusal files name moment limit ws e) (one_stored limit image a.old b.old a.stored b.stored) a.cause) b.cause
 
-pub run_unrefused : (tells : Type 0) (files : List NamedFile) (name : List ℕ) (moment limit : ℕ) (file : List ℕ) (entry exit : Past) (text : List ℕ) (e : RunError) → tells → HasRun tells files name moment limit file entry exit text
-    → ¬ (IsRefusedIn files name moment limit file e)
-run_unrefused tells files name moment limit file entry exit text e t has refused =
+pub run_unrefused : (tells : Type 0) (files : List NamedFile) (name : List ℕ) (moment limit : ℕ) (image : Image) (entry exit : Past) (text : List ℕ) (e : RunError) → tells → HasRun tells files name moment limit image entry exit text
+    → ¬ (IsRefusedIn files name moment limit image e)
+run_unrefused tells files name moment limit image entry exit text e t has refused =
     let done = has.leaves.done in
     let run : IsRun (Unit {0}) files name moment has.old done.ws =
     record { repo = done.run.repo; there = done.run.there; given = done.run.given; is_given = given_under tells (Unit {0}) files done.run.repo.files moment done.run.given (λ u. t) done.run.is_given; is = done.run.is } in
     run_fine files name moment limit has.old done.ws e run (subst (λ (ws : List Write). length_of ws ≤ limit) done.all has.leaves.room)
-    (subst (λ (ws : List Write). IsRepoRefusal files name moment limit ws e) (one_stored limit file refused.old has.old refused.stored has.stored) refused.cause)
+    (subst (λ (ws : List Write). IsRepoRefusal files name moment limit ws e) (one_stored limit image refused.old has.old refused.stored has.stored) refused.cause)

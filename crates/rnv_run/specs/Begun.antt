@@ -20,8 +20,8 @@ BeginsOrStays limit over old_past new_past old =
 -- Over a disk that may have several readings: an image whose readings all stood on it, or one whose readings are all ONE of those
 -- that stood on it and the first writes of ONE run over it.
 pub data LeftOf (limit : ℕ) (over : List Write → List Write → Type 0) (entry : Past) (c : Image) : Type 0 where
-  kept : EachReading limit (IsReadingNow limit entry) c.zero → LeftOf limit over entry c
-  begun : (old ws : List Write) → IsReadingNow limit entry (map spelling old) → over old ws → EachReading limit (SpellsFront old ws 0) c.zero → LeftOf limit over entry c
+  kept : EachReading limit (IsReadingNow limit entry) c → LeftOf limit over entry c
+  begun : (old ws : List Write) → IsReadingNow limit entry (map spelling old) → over old ws → EachReading limit (SpellsFront old ws 0) c → LeftOf limit over entry c
 
 -- what a stop at any moment leaves of a disk that has readings
 abbrev pub LeavesOf : ℕ → (List Write → List Write → Type 0) → Past → Past → Type 0

@@ -46,47 +46,47 @@ pub record LeavesRun (tells : Type 0) (files : List NamedFile) (name : List ℕ)
   pub at_rest : IsAtRest limit exit (map spelling new)
   pub room : length_of new ≤ limit
 
--- a run over the store of a file, which a start reads on entry
-pub record HasRun (tells : Type 0) (files : List NamedFile) (name : List ℕ) (moment limit : ℕ) (file : List ℕ) (entry exit : Past) (text : List ℕ) : Type 0 where
+-- a run over the store of an image, which a start reads on entry
+pub record HasRun (tells : Type 0) (files : List NamedFile) (name : List ℕ) (moment limit : ℕ) (image : Image) (entry exit : Past) (text : List ℕ) : Type 0 where
   pub old : List Write
-  pub stored : IsStored limit file old
+  pub stored : IsStored limit image old
   pub reading : IsReadingNow limit entry (map spelling old)
   pub leaves : LeavesRun tells files name moment limit old exit text
 
--- the store of a file, for which this is the cause of a refusal
-pub record IsRefusedIn (files : List NamedFile) (name : List ℕ) (moment limit : ℕ) (file : List ℕ) (error : RunError) : Type 0 where
+-- the store of an image, for which this is the cause of a refusal
+pub record IsRefusedIn (files : List NamedFile) (name : List ℕ) (moment limit : ℕ) (image : Image) (error : RunError) : Type 0 where
   pub old : List Write
-  pub stored : IsStored limit file old
+  pub stored : IsStored limit image old
   pub cause : IsRepoRefusal files name moment limit old error
 
--- the store of a file, with a repository of that name
-pub record HasRepo (name : List ℕ) (limit : ℕ) (file : List ℕ) : Type 0 where
+-- the store of an image, with a repository of that name
+pub record HasRepo (name : List ℕ) (limit : ℕ) (image : Image) : Type 0 where
   pub old : List Write
-  pub stored : IsStored limit file old
+  pub stored : IsStored limit image old
   pub repo : Repo
   pub there : known name (after old []) ≡ Some repo
 
--- What a refusal tells of a file alone: it is no store, or its store has no repository of that name, or has it, as behind every cause but
+-- What a refusal tells of an image alone: it is no store, or its store has no repository of that name, or has it, as behind every cause but
 -- want of memory and a fault of the disk.
-abbrev pub IsOfFile : List ℕ → ℕ → List ℕ → RunRefusal → Type 0
-IsOfFile name limit file (NotAJournal offset) = IsDamaged limit file offset
-IsOfFile name limit file (Ended Memory) = Unit {0}
-IsOfFile name limit file (Ended DiskFault) = Unit {0}
-IsOfFile name limit file (Ended UnknownRepo) = IsUnknownIn name limit file
-IsOfFile name limit file (Ended FolderFault) = HasRepo name limit file
-IsOfFile name limit file (Ended (NotBuilt path)) = HasRepo name limit file
-IsOfFile name limit file (Ended (Limit which number)) = HasRepo name limit file
-IsOfFile name limit file (Ended (IndexRefused path line)) = HasRepo name limit file
+abbrev pub IsOfImage : List ℕ → ℕ → Image → RunRefusal → Type 0
+IsOfImage name limit image (NotAJournal offset) = IsDamaged limit image offset
+IsOfImage name limit image (Ended Memory) = Unit {0}
+IsOfImage name limit image (Ended DiskFault) = Unit {0}
+IsOfImage name limit image (Ended UnknownRepo) = IsUnknownIn name limit image
+IsOfImage name limit image (Ended FolderFault) = HasRepo name limit image
+IsOfImage name limit image (Ended (NotBuilt path)) = HasRepo name limit image
+IsOfImage name limit image (Ended (Limit which number)) = HasRepo name limit image
+IsOfImage name limit image (Ended (IndexRefused path line)) = HasRepo name limit image
 
--- What a run leaves of a disk whose bytes are no store: a file that is no journal is not written to, and a journal loses nothing.
+-- What a run leaves of a disk whose bytes are no store: bytes that are no journal are not written to, and a journal loses nothing.
 abbrev pub LeavesNoStore : ℕ → Image → Image → Past → Past → RunRefusal → Type 0
 LeavesNoStore limit old new before now (NotAJournal offset) = LeavesRefused limit old new before now (start_damaged offset)
 LeavesNoStore limit old new before now (Ended error) = Unit {0}
 
--- why nothing is written over a file: it is no store, or the repository, its base or the journal's room are the cause
-abbrev pub IsNotRun : List NamedFile → List ℕ → ℕ → ℕ → List ℕ → RunRefusal → Type 0
-IsNotRun files name moment limit file (NotAJournal offset) = IsDamaged limit file offset
-IsNotRun files name moment limit file (Ended error) = IfCaused (IsRefusedIn files name moment limit file) error
+-- why nothing is written over an image: it is no store, or the repository, its base or the journal's room are the cause
+abbrev pub IsNotRun : List NamedFile → List ℕ → ℕ → ℕ → Image → RunRefusal → Type 0
+IsNotRun files name moment limit image (NotAJournal offset) = IsDamaged limit image offset
+IsNotRun files name moment limit image (Ended error) = IfCaused (IsRefusedIn files name moment limit image) error
 
 -- ---- runs that are stopped and given again
 
@@ -113,26 +113,26 @@ pub record IsFinished (limit : ℕ) (exit : Past) (name : List ℕ) (moment : �
   pub there : known name (after old []) ≡ Some repo
   pub prints : PrintsRun moment repo (drop count (steps g first)) text
 
--- the same behind the writes that stood on entry, which a start reads of the file
-pub record HasFinished (limit : ℕ) (file : List ℕ) (entry exit : Past) (name : List ℕ) (moment : ℕ) (start : List Write) (first : Repo) (g : Given) (text : List ℕ) : Type 0 where
+-- the same behind the writes that stood on entry, which a start reads of the image
+pub record HasFinished (limit : ℕ) (image : Image) (entry exit : Past) (name : List ℕ) (moment : ℕ) (start : List Write) (first : Repo) (g : Given) (text : List ℕ) : Type 0 where
   pub old : List Write
-  pub stored : IsStored limit file old
+  pub stored : IsStored limit image old
   pub reading : IsReadingNow limit entry (map spelling old)
   pub finished : IsFinished limit exit name moment start first g old text
 
 -- A run over a disk. From any disk that has readings it begins one run or none. Where each reading on entry was left by an earlier
 -- run, whatever a stop leaves is so still, with no fewer of the writes, and a text tells that all of them stand. No refusal but that
--- of the disk has written anything. What is no store, or lacks the repository, is told of the file alone, and every other cause but want
+-- of the disk has written anything. What is no store, or lacks the repository, is told of the image alone, and every other cause but want
 -- of memory and a fault of the disk comes only behind the start and the look-up of the repository.
-pub record Runs (folder_tells : Type 0) (files : List NamedFile) (disk_tells : Type 0) (file : List ℕ) (entry exit : Past) (name : List ℕ) (moment : ℕ) (answer : Result (List ℕ) RunRefusal) : Type 0 where
+pub record Runs (folder_tells : Type 0) (files : List NamedFile) (disk_tells : Type 0) (image : Image) (entry exit : Past) (name : List ℕ) (moment : ℕ) (answer : Result (List ℕ) RunRefusal) : Type 0 where
   pub begins : LeavesOf 268435456 (IsRun folder_tells files name moment) entry exit
   pub stops : (start : List Write) (first : Repo) (g : Given) (least : ℕ) → folder_tells → IsBegun files name moment start first g
       → ReadsFront 268435456 entry start (steps g first) least
       → ReadsOnly 268435456 entry exit (SpellsFront start (steps g first) least)
   pub finished : (start : List Write) (first : Repo) (g : Given) (least : ℕ) → folder_tells → disk_tells → IsBegun files name moment start first g
       → ReadsFront 268435456 entry start (steps g first) least
-      → IfOk answer (HasFinished 268435456 file entry exit name moment start first g)
+      → IfOk answer (HasFinished 268435456 image entry exit name moment start first g)
   pub unwritten : IfErr answer (λ refusal. refusal ≢ Ended DiskFault → KeepsReadings 268435456 entry exit)
-  pub done : disk_tells → IfOk answer (HasRun folder_tells files name moment 268435456 file entry exit)
-  pub refused : folder_tells → disk_tells → IfErr answer (IsNotRun files name moment 268435456 file)
-  pub file_told : disk_tells → IfErr answer (IsOfFile name 268435456 file)
+  pub done : disk_tells → IfOk answer (HasRun folder_tells files name moment 268435456 image entry exit)
+  pub refused : folder_tells → disk_tells → IfErr answer (IsNotRun files name moment 268435456 image)
+  pub image_told : disk_tells → IfErr answer (IsOfImage name 268435456 image)

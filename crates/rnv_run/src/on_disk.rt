@@ -136,7 +136,7 @@ pub fn run_on<D: Disk, O: Folder>(
     // File `One` is left alone, and what is no store is not written over.
     ensures other { KeepsOne (D.past disk) (D.past result.disk) }
     ensures left { D.tells → IfErr result.text (LeavesNoStore 268435456 (D.seen disk) (D.seen result.disk) (D.past disk) (D.past result.disk)) }
-    ensures runs { Runs O.tells (O.files folder.old) D.tells (D.seen disk).zero (D.past disk) (D.past result.disk) name.now moment result.text }
+    ensures runs { Runs O.tells (O.files folder.old) D.tells (D.seen disk) (D.past disk) (D.past result.disk) name.now moment result.text }
     ensures same { O.tells → (O.files folder.new ≡ O.files folder.old) }
     ensures folder_cause { FaultsBy (O.faults folder.old) (O.faults folder.new) result.text (ended_by RunError.FolderFault) }
     ensures disk_cause { FaultsBy (D.faults disk) (D.faults result.disk) result.text (ended_by RunError.DiskFault) }

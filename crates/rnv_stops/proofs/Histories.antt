@@ -10,6 +10,7 @@ use Rattle.rnv_forge.specs.Store.{ArePermitted, IsSound, after}
 use Rattle.rnv_forge.specs.WellFormed.{IsWellFormed}
 use Rattle.rnv_forge.specs.declared.repo.Repo.{Repo}
 use Rattle.rnv_forge.specs.declared.write.Write.{Write}
+use Rattle.rnv_journal.proofs.Uses.{each_weaker}
 use Rattle.rnv_journal.specs.Reading.{EachReading, HasReadings, IsReading}
 use Rattle.rnv_journal.specs.Readings.{EachReadingNow, HasReadingsNow, IsAtRest, IsReadingNow, ReadsOnly}
 use Rattle.rnv_outcome.specs.Given.{Given}
@@ -26,7 +27,6 @@ use Rattle.rnv_run.specs.Repository.{IsRun}
 use Rattle.rnv_run.specs.Run.{LeavesOutcome}
 use Rattle.rnv_app.specs.Top.{running}
 use Rattle.rnv_app.proofs.Ends.{done_at, part_at}
-use Rattle.rnv_run.proofs.Begun.{each_weaker}
 use Rattle.rnv_run.proofs.Stored.{sound_after}
 use Rattle.rnv_run.proofs.Wanted.{given_under}
 use Rattle.rnv_stops.proofs.Edited.{put_edited}
@@ -38,8 +38,8 @@ use Rattle.rnv_stops.specs.History.Origin.{since, untouched}
 module _ (limit : ℕ) (start ws : List Write) (least : ℕ) where
   found_then : (old new next : Past) (image : Image) → ReadsOnly limit old new (SpellsFront start ws least) → new.left old.moment image → ((c : Image) → LeftNow next c → c ≡ image) → ReadsFront limit next start ws least
   found_then old new next image run left only = record {
-    some = λ c there. subst (λ (d : Image). HasReadings limit d.zero) (sym (only c there)) (run.each image left).some;
-    each = λ list reading. (run.each image left).each list (subst (λ (d : Image). IsReading limit d.zero list) (only reading.image reading.left) reading.reading);
+    some = λ c there. subst (λ (d : Image). HasReadings limit d) (sym (only c there)) (run.each image left).some;
+    each = λ list reading. (run.each image left).each list (subst (λ (d : Image). IsReading limit d list) (only reading.image reading.left) reading.reading);
   }
 
 ok_of : (answer : Result (List ℕ) RunRefusal) (P : List ℕ → Type 0) (text : List ℕ) → running answer ≡ Ok text → IfOk answer P → (t : List ℕ) × P t
@@ -54,8 +54,8 @@ done_of files name moment c is P (inr ten_is) p =
     let d = part_at c.out_tells c.before c.after c.faults c.now (running is.ends.answer) c.code is.ends.told ten_is in ok_of is.ends.answer P d.0 d.1 p
 
 -- what a first run is given is fit, where some writes behind those that it began with are stored
-fit_stored : (files : List NamedFile) (name : List ℕ) (moment limit : ℕ) (file : List ℕ) (start more : List Write) (first : Repo) (g : Given) → IsBegun files name moment start first g → IsStored limit file (start ++ more) → IsFit g
-fit_stored files name moment limit file start more first g begun stored =
+fit_stored : (files : List NamedFile) (name : List ℕ) (moment limit : ℕ) (image : Image) (start more : List Write) (first : Repo) (g : Given) → IsBegun files name moment start first g → IsStored limit image (start ++ more) → IsFit g
+fit_stored files name moment limit image start more first g begun stored =
     let sound : IsSound first = all_at (λ (r : Repo). r.name) IsSound name (after start []) first (sound_after start more stored.well_formed stored.permitted).each begun.there in
     given_fit files first.files moment g sound.files begun.is_given
 
@@ -72,14 +72,14 @@ module _ (files : List NamedFile) (name : List ℕ) (moment : ℕ) (start : List
   pub then_next : (a b : Call) → IsRunCall files name moment a → FindsLeft a b → (least : ℕ) → ReadsFront 268435456 a.sight.entry start W least → ReadsFront 268435456 b.sight.entry start W least
   then_next a b is found least reads = found_then 268435456 start W least a.sight.entry a.sight.exit b.sight.entry found.image (during a is least reads) found.left found.only
 
-  pub finished_by : (c : Call) → IsRunCall files name moment c → ReadsFront 268435456 c.sight.entry start W 0 → IsDone c.code → (t : List ℕ) × HasFinished 268435456 c.sight.file c.sight.entry c.sight.exit name moment start first g t
+  pub finished_by : (c : Call) → IsRunCall files name moment c → ReadsFront 268435456 c.sight.entry start W 0 → IsDone c.code → (t : List ℕ) × HasFinished 268435456 c.sight.seen c.sight.entry c.sight.exit name moment start first g t
   finished_by c is reads done =
-      done_of files name moment c is (HasFinished 268435456 c.sight.file c.sight.entry c.sight.exit name moment start first g) done (is.ends.runs.finished start first g 0 is.folder_told is.disk_told (begun_in c is) reads)
+      done_of files name moment c is (HasFinished 268435456 c.sight.seen c.sight.entry c.sight.exit name moment start first g) done (is.ends.runs.finished start first g 0 is.folder_told is.disk_told (begun_in c is) reads)
 
-  pub finished_edited : (file : List ℕ) (entry exit : Past) (text : List ℕ) → HasFinished 268435456 file entry exit name moment start first g text → ArePutEdited files first.files W
-  finished_edited file entry exit text has =
+  pub finished_edited : (image : Image) (entry exit : Past) (text : List ℕ) → HasFinished 268435456 image entry exit name moment start first g text → ArePutEdited files first.files W
+  finished_edited image entry exit text has =
       put_edited files moment first g begun.is_given
-      (fit_stored files name moment 268435456 file start (take has.finished.count W) first g begun (subst (λ (ws : List Write). IsStored 268435456 file ws) has.finished.found has.stored))
+      (fit_stored files name moment 268435456 image start (take has.finished.count W) first g begun (subst (λ (ws : List Write). IsStored 268435456 image ws) has.finished.found has.stored))
 
   module _ (calls : ℕ → Call) (n : ℕ) (are : AreRuns files name moment calls n) where
     later_by : (d i least : ℕ) → i + d ≤ n → ReadsFront 268435456 (calls i).sight.entry start W least → ReadsFront 268435456 (calls (i + d)).sight.entry start W least
@@ -101,18 +101,18 @@ module _ (files : List NamedFile) (name : List ℕ) (moment : ℕ) (start : List
       settled = λ done. (end done).1.finished.at_rest;
       once = steps_once g first (desired_apart first.files begun.is_given.picked g.items begun.is_given.desired);
       outcome = λ done. (end done).1.finished.leaves;
-      edited = λ done. finished_edited (calls n).sight.file (calls n).sight.entry (calls n).sight.exit (end done).0 (end done).1;
+      edited = λ done. finished_edited (calls n).sight.seen (calls n).sight.entry (calls n).sight.exit (end done).0 (end done).1;
     }
       where
-        end : IsDone (calls n).code → (t : List ℕ) × HasFinished 268435456 (calls n).sight.file (calls n).sight.entry (calls n).sight.exit name moment start first g t
+        end : IsDone (calls n).code → (t : List ℕ) × HasFinished 268435456 (calls n).sight.seen (calls n).sight.entry (calls n).sight.exit name moment start first g t
         end done = finished_by (calls n) (are.each n (omega arith)) (later_at 0 n 0 (omega arith) (omega arith) reads) done
 
 -- ---- from any disk that has readings
 
 module _ (files : List NamedFile) (name : List ℕ) (moment : ℕ) (entry : Past) where
   -- what the next call finds is what was left
-  found : (P : List (List ℕ) → Type 0) (a b : Call) (f : FindsLeft a b) → EachReading 268435456 P f.image.zero → EachReadingNow 268435456 P b.sight.entry
-  found P a b f reads c left = subst (λ (d : Image). EachReading 268435456 P d.zero) (sym (f.only c left)) reads
+  found : (P : List (List ℕ) → Type 0) (a b : Call) (f : FindsLeft a b) → EachReading 268435456 P f.image → EachReadingNow 268435456 P b.sight.entry
+  found P a b f reads c left = subst (λ (d : Image). EachReading 268435456 P d) (sym (f.only c left)) reads
 
   -- readings of which each is so
   front_of : (past : Past) (start ws : List Write) → EachReadingNow 268435456 (SpellsFront start ws 0) past → ReadsFront 268435456 past start ws 0
@@ -132,11 +132,11 @@ module _ (files : List NamedFile) (name : List ℕ) (moment : ℕ) (entry : Past
       earlier list r = (reads r.image r.left).each list r.reading
 
       by : LeftOf 268435456 (IsRun a.sight.folder_tells a.sight.files name moment) a.sight.entry f.image → Origin files name moment entry b.sight.entry
-      by (kept all) = untouched (found (IsReadingNow 268435456 entry) a b f (each_weaker 268435456 (IsReadingNow 268435456 a.sight.entry) (IsReadingNow 268435456 entry) f.image.zero earlier all))
+      by (kept all) = untouched (found (IsReadingNow 268435456 entry) a b f (each_weaker 268435456 (IsReadingNow 268435456 a.sight.entry) (IsReadingNow 268435456 entry) earlier f.image all))
       by (was_begun old ws reading run all) =
           since old run.repo run.given (record { reading = earlier (map spelling old) reading; begun = begun_of a.sight.folder_tells is.folder_told a.sight.files is.files_are old ws run })
           (front_of b.sight.entry old (steps run.given run.repo)
-          (found (SpellsFront old (steps run.given run.repo) 0) a b f (subst (λ (l : List Write). EachReading 268435456 (SpellsFront old l 0) f.image.zero) run.is all)))
+          (found (SpellsFront old (steps run.given run.repo) 0) a b f (subst (λ (l : List Write). EachReading 268435456 (SpellsFront old l 0) f.image) run.is all)))
   next a b is f (since start first g on reads) = since start first g on (then_next files name moment start first g on.begun a b is f 0 reads)
 
   origin_at : (calls : ℕ → Call) (n : ℕ) → (calls 0).sight.entry ≡ entry → HasReadingsNow 268435456 entry → AreRuns files name moment calls n → (i : ℕ) → i ≤ n → Origin files name moment entry (calls i).sight.entry
@@ -154,11 +154,11 @@ module _ (files : List NamedFile) (name : List ℕ) (moment : ℕ) (entry : Past
         at_rest = has.1.finished.at_rest;
         outcome = has.1.finished.leaves;
         once = steps_once g first (desired_apart first.files on.begun.is_given.picked g.items on.begun.is_given.desired);
-        edited = finished_edited files name moment start first g on.begun c.sight.file c.sight.entry c.sight.exit has.0 has.1;
+        edited = finished_edited files name moment start first g on.begun c.sight.seen c.sight.entry c.sight.exit has.0 has.1;
       }
-  settled_at c is (untouched reads) done = by (done_of files name moment c is (HasRun c.sight.folder_tells c.sight.files name moment 268435456 c.sight.file c.sight.entry c.sight.exit) done (is.ends.runs.done is.disk_told)).1
+  settled_at c is (untouched reads) done = by (done_of files name moment c is (HasRun c.sight.folder_tells c.sight.files name moment 268435456 c.sight.seen c.sight.entry c.sight.exit) done (is.ends.runs.done is.disk_told)).1
     where
-      by : {text : List ℕ} → HasRun c.sight.folder_tells c.sight.files name moment 268435456 c.sight.file c.sight.entry c.sight.exit text → IsSettled files name moment entry c.sight.exit
+      by : {text : List ℕ} → HasRun c.sight.folder_tells c.sight.files name moment 268435456 c.sight.seen c.sight.entry c.sight.exit text → IsSettled files name moment entry c.sight.exit
       by has =
           let run = has.leaves.done.run in
           let all : has.leaves.new ≡ has.old ++ steps run.given run.repo = has.leaves.done.all ∙ ap (λ (l : List Write). has.old ++ l) run.is in
@@ -172,7 +172,7 @@ module _ (files : List NamedFile) (name : List ℕ) (moment : ℕ) (entry : Past
             outcome = subst (λ (ws : List Write). LeavesOutcome run.given name run.repo ws) all has.leaves.done.leaves;
             once = steps_once run.given run.repo (desired_apart run.repo.files begun.is_given.picked run.given.items begun.is_given.desired);
             edited = put_edited files moment run.repo run.given begun.is_given
-                (fit_stored files name moment 268435456 c.sight.file has.old [] run.repo run.given begun (subst (λ (ws : List Write). IsStored 268435456 c.sight.file ws) (sym (append-nil has.old)) has.stored));
+                (fit_stored files name moment 268435456 c.sight.seen has.old [] run.repo run.given begun (subst (λ (ws : List Write). IsStored 268435456 c.sight.seen ws) (sym (append-nil has.old)) has.stored));
           }
 
 pub all_from : (files : List NamedFile) (name : List ℕ) (moment : ℕ) (calls : ℕ → Call) (n : ℕ) → AreRuns files name moment calls n → HasReadingsNow 268435456 (calls 0).sight.entry → ComposeFrom files name moment calls n

@@ -36,7 +36,7 @@ pub record Call : Type 1 where
 -- the same, of a disk by what stops may leave before and after the call, and what it holds before
 abbrev pub call_of : Type 0 → List NamedFile → Type 0 → Past → Past → Image → Type 0 → List ℕ → List ℕ → ℕ → ℕ → ℕ → Call
 call_of folder_tells files disk_tells entry exit seen out_tells before after faults now code = record {
-  sight = record { folder_tells = folder_tells; files = files; disk_tells = disk_tells; file = seen.zero; entry = entry; exit = exit; same_disk = Unit {0} };
+  sight = record { folder_tells = folder_tells; files = files; disk_tells = disk_tells; seen = seen; entry = entry; exit = exit; same_disk = Unit {0} };
   out_tells = out_tells;
   before = before;
   after = after;

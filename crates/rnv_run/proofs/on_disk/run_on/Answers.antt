@@ -1,7 +1,8 @@
-use Rattle.rnv_commands.proofs.Stops.{read_on_entry, stored_of}
+use Rattle.rnv_commands.proofs.Stops.{stored_of}
 use Rattle.rnv_store.proofs.Writes.{all_front}
 use Rattle.rnv_forge.specs.WellFormed.{IsWellFormed}
 use Rattle.rnv_journal.proofs.Ones.{one_then}
+use Rattle.rnv_journal.proofs.Uses.{reading_now}
 use Rattle.rnv_run.proofs.Disks.{ended_left, runs_as, runs_of, runs_refused, start_left}
 use Rattle.rnv_run.proofs.on_disk.run_on.Goals as goal
 
@@ -9,7 +10,7 @@ pub returns-in-Ok-clause-runs : goal.returns-in-Ok-clause-runs
 returns-in-Ok-clause-runs g c =
     runs_as _ _ _ _ _ _ _ _ _ _ c.ended.ensures
     (runs_of g.O.Folder.tells g.D.Disk.tells (g.O.Folder.files c.args.folder.now) _ _ _ _ c.args.name.now c.args.moment _ _
-    c.in-Ok.ensures.any_moment (λ d. read_on_entry _ _ (g.D.Disk.seen c.args.disk) _ (g.met.D.Disk.reads_now c.args.disk d) (c.in-Ok.ensures.writes d))
+    c.in-Ok.ensures.any_moment (λ d. reading_now _ _ (g.D.Disk.seen c.args.disk) _ (g.met.D.Disk.reads_now c.args.disk d) (c.in-Ok.ensures.writes d))
     (λ d. stored_of _ _ _ _ (c.in-Ok.ensures.writes d) c.stands.ensures.well_formed c.stands.ensures.permitted)
     (λ t i left. g.met.D.Disk.only_told _ _ i left) (all_front IsWellFormed _ _ c.stands.ensures.well_formed) c.run_started-text.ensures.any_moment c.run_started-text.ensures.known
     c.run_started-text.ensures.unwritten c.run_started-text.ensures.ran c.run_started-text.ensures.refused c.run_started-text.ensures.resumed c.run_started-text.ensures.resumed_any_moment)
