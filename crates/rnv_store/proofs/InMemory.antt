@@ -1,7 +1,7 @@
 -- A forge that has no disk: its writes as its calls change them.
 use Rattle.std.proofs.Common.{◌≡◌, ◌≢◌, ◌≤◌, ◌<◌, ◌+◌, ◌-◌, ◌*◌, ◌^◌, ℕ, zero, suc, List, [], ◌∷◌, ◌++◌, length, get_or, min, take, drop, refl, sym, ap, subst, ◌∙◌, arith, length-append}
 use Rattle.std.specs.List.{AllByRecursion}
-use Rattle.std.proofs.Math.Seq.{drop-append_seam, take-append_seam}
+use Rattle.std.proofs.Math.Seq.{drop-append_seam, take-add, take-append_seam}
 use Rattle.std.proofs.lemmas.List.{length-take-le, take-append-drop}
 use Rattle.rnv_forge.specs.declared.repo.Repo.{Repo}
 use Rattle.rnv_forge.specs.declared.write.Write.{Write}
@@ -12,7 +12,7 @@ use Rattle.rnv_payload.specs.Spelling.{spelling}
 use Rattle.rnv_store.specs.Forge.{LeavesWrites}
 use Rattle.rnv_store.specs.InMemory.{HoldsInMemory, in_memory_permitted, in_memory_well_formed, in_memory_within, no_past}
 use Rattle.rnv_store.specs.Laws.{all_both}
-use Rattle.rnv_store.specs.Writes.{length_of}
+use Rattle.rnv_store.specs.Writes.{entry_length, length_of}
 use Rattle.rnv_store.proofs.Folding.{drop_here, take_more}
 use Rattle.rnv_store.proofs.Revisions.{revisions_more}
 use Rattle.rnv_store.proofs.Turns.{take_none}
@@ -41,6 +41,13 @@ lengthened_more before n ws i w less at is = omega (arith, is, length_more ws i 
 
 pub lengthened_both : (vs ws : List Write) (m n : ℕ) → m ≡ min (14 + length_of vs - 14) (2 ^ 64 - 1) → n ≡ min (m + length_of ws - 14) (2 ^ 64 - 1) → n ≡ min (length_of (vs ++ ws)) (2 ^ 64 - 1)
 lengthened_both vs ws m n one two = omega (arith, one, two, length_both vs ws, many_writes ws)
+
+-- one write more stands
+pub stands_longer : (all : List Write) (done : ℕ) (w : Write) (ws : List Write) → drop done all ≡ w ∷ ws → length_of (take (done + 1) all) ≡ length_of (take done all) + entry_length w
+stands_longer all done w ws is =
+    let first : take 1 (drop done all) ≡ w ∷ [] = ap (λ (l : List Write). take 1 l) is ∙ ap (λ (l : List Write). w ∷ l) (take_none ws) in
+    let more : take (done + 1) all ≡ take done all ++ w ∷ [] = take-add done 1 all ∙ ap (λ (l : List Write). take done all ++ l) first in
+    omega (arith, ap length_of more, length_both (take done all) (w ∷ []))
 
 -- the store of the first i writes
 pub record IsBuilt (ws : List Write) (i : ℕ) (store : List Repo) : Type 0 where

@@ -1,5 +1,5 @@
 -- The first of some byte strings that spell writes, and the others.
-use Rattle.std.proofs.Common.{◌≡◌, ◌≤◌, ℕ, List, [], ◌∷◌, ◌++◌, length, map, take, drop, Option, Some, None, inl, inr, refl, sym, ◌∙◌, ap, subst, arith, append_assoc}
+use Rattle.std.proofs.Common.{◌≡◌, ◌≤◌, ◌+◌, ℕ, List, [], ◌∷◌, ◌++◌, length, map, take, drop, Option, Some, None, inl, inr, refl, sym, ◌∙◌, ap, subst, arith, append_assoc}
 use Rattle.std.specs.List.{AllByRecursion, cons_option}
 use Rattle.std.proofs.lemmas.List.{take-append-drop}
 use Rattle.rnv_disk.specs.Stops.{Past}
@@ -15,7 +15,7 @@ use Rattle.rnv_payload.specs.Spelling.{spelling}
 use Rattle.rnv_store.specs.Forge.{IsOldOrNext, LeavesWrites, SpellSome}
 use Rattle.rnv_store.specs.Held.{HoldsWrites}
 use Rattle.rnv_store.specs.Laws.{spelled_both}
-use Rattle.rnv_store.specs.Writes.{IsSpelledBy, writes_in}
+use Rattle.rnv_store.specs.Writes.{IsSpelledBy, entry_length, writes_in}
 use Rattle.rnv_store.proofs.Writes.{writes_append}
 
 -- no more writes are read than there are byte strings
@@ -34,6 +34,19 @@ take_none (x ∷ xs) = refl
 pub drop_none : {X : Type 0} (xs : List X) → drop 0 xs ≡ xs
 drop_none [] = refl
 drop_none (x ∷ xs) = refl
+
+-- one byte string more
+longer_by : (es : List (List ℕ)) (p : List ℕ) → counted (es ++ p ∷ []) ≡ counted es + (5 + length p)
+longer_by [] p = omega arith
+longer_by (e ∷ es) p = omega (arith, longer_by es p)
+
+-- the next write makes the journal longer by its entry
+pub next_longer : (held : Held) (past : Past) → HoldsWrites held past → (w : Write) (ws : List Write) → writes_in held.prepared ≡ w ∷ ws
+    → counted (appended held).entries ≡ counted held.entries + entry_length w
+next_longer held past h w ws is =
+    let all : held.prepared ≡ spelling w ∷ map spelling ws = h.prepared.spells ∙ ap (λ (l : List Write). map spelling l) is in
+    let first : take 1 held.prepared ≡ spelling w ∷ [] = ap (λ (l : List (List ℕ)). take 1 l) all ∙ ap (λ (l : List (List ℕ)). spelling w ∷ l) (take_none (map spelling ws)) in
+    ap (λ (l : List (List ℕ)). counted (held.entries ++ l)) first ∙ longer_by held.entries (spelling w)
 
 -- the first and the others
 pub record Splits (ps : List (List ℕ)) : Type 0 where

@@ -1,6 +1,6 @@
 -- What a forge holds that has no disk.
 use Rattle.std.specs.Prelude.{◌≤◌, ℕ, List, [], ◌++◌, length, take, drop}
-use Rattle.std.proofs.Common.{subst, sym}
+use Rattle.std.proofs.Common.{◌∷◌, arith, subst, sym}
 use Rattle.std.specs.List.{AllByRecursion}
 use Rattle.std.proofs.lemmas.List.{take-append-drop}
 use Rattle.rnv_disk.specs.Stops.{Past}
@@ -22,6 +22,12 @@ pub record HoldsInMemory (all : List Write) (done limit : ℕ) : Type 0 where
 abbrev pub no_past : Past
 no_past = record { moment = 0; left = λ t c. ⊥; earlier = λ t u c le none. none }
 
+-- writes that stand are no longer than they and those behind them
+length_standing : (vs ws : List Write) → length_of vs ≤ length_of (vs ++ ws)
+length_standing [] [] = omega arith
+length_standing [] (w ∷ ws) = omega (arith, length_standing [] ws)
+length_standing (v ∷ vs) ws = omega (arith, length_standing vs ws)
+
 -- the laws of a forge of which no stop leaves an image
 
 pub nothing_at_rest : (limit : ℕ) (list : List (List ℕ)) → IsAtRest limit no_past list
@@ -36,3 +42,6 @@ module _ (all : List Write) (done limit : ℕ) (h : HoldsInMemory all done limit
 
   pub in_memory_within : length_of (take done all ++ drop done all) ≤ limit
   in_memory_within = subst (λ (l : List Write). length_of l ≤ limit) (sym (take-append-drop done all)) h.within
+
+  pub in_memory_length : length_of (take done all) ≤ limit
+  in_memory_length = omega (arith, length_standing (take done all) (drop done all), in_memory_within)

@@ -34,6 +34,11 @@ pub length_counted : (ws : List Write) → counted (map spelling ws) ≡ length_
 length_counted [] = refl
 length_counted (w ∷ ws) = omega (arith, length_counted ws)
 
+counted_longer : (ps qs : List (List ℕ)) → counted ps ≤ counted (ps ++ qs)
+counted_longer [] [] = omega arith
+counted_longer [] (q ∷ qs) = omega (arith, counted_longer [] qs)
+counted_longer (p ∷ ps) qs = omega (arith, counted_longer ps qs)
+
 -- what holds of the writes that stand, and of the store that they make
 
 all_standing : {X : Type 0} (P : X → Type 0) (xs ys : List X) → AllByRecursion P (xs ++ ys) → AllByRecursion P xs
@@ -73,6 +78,12 @@ module _ (held : Held) (past : Past) (h : HoldsWrites held past) where
   held_within =
       let all = spelled_both held.entries held.prepared (writes_in held.entries) (writes_in held.prepared) h.entries h.prepared in
       omega (arith, h.within, ap counted all.spells, length_counted (writes_in held.entries ++ writes_in held.prepared))
+
+  pub held_length : counted held.entries ≡ length_of (writes_in held.entries)
+  held_length = ap counted h.entries.spells ∙ length_counted (writes_in held.entries)
+
+  pub held_no_longer : counted held.entries ≤ held.limit
+  held_no_longer = omega (arith, counted_longer held.entries held.prepared, h.within)
 
   pub held_at_rest : held.closed ≡ false → IsAtRest held.limit past (map spelling (writes_in held.entries))
   held_at_rest open' = subst (λ (l : List (List ℕ)). IsAtRest held.limit past l) h.entries.spells (h.rests open')

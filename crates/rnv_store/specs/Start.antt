@@ -3,8 +3,8 @@ use Rattle.std.specs.Prelude.{◌≡◌, ◌≤◌, ◌⊎◌, ℕ, List, take}
 use Rattle.rnv_base.specs.Causes.{Rose}
 use Rattle.rnv_disk.specs.Images.{Image}
 use Rattle.rnv_disk.specs.Stops.{Past, LeftNow, LeavesOnly}
-use Rattle.rnv_journal.specs.File.{IsWrongAt, end_of}
-use Rattle.rnv_journal.specs.Reading.{ReadsAs}
+use Rattle.rnv_journal.specs.File.{end_of}
+use Rattle.rnv_journal.specs.Reading.{IsWrongAt, ReadsAs}
 use Rattle.rnv_journal.specs.Readings.{IsAtRest}
 use Rattle.rnv_journal.specs.declared.start.StartError.{StartError}
 use Rattle.rnv_journal.specs.declared.start.StartError.TheVariants.{DiskFault, NotAJournal, Memory}
@@ -16,40 +16,40 @@ IsDamage payloads DiskFault = ⊥
 IsDamage payloads (NotAJournal offset) = (index : ℕ) × IsDamaged payloads index × (offset ≡ end_of (take index payloads))
 IsDamage payloads Memory = Unit {0}
 
--- the file reads as byte strings, and this is the offset of the gate of the first that spells no permitted write
-pub record IsDamagedAt (limit : ℕ) (file : List ℕ) (offset : ℕ) : Type 0 where
+-- the image reads as byte strings, and this is the offset of the gate of the first that spells no permitted write
+pub record IsDamagedAt (limit : ℕ) (image : Image) (offset : ℕ) : Type 0 where
   pub payloads : List (List ℕ)
-  pub read : ReadsAs limit file payloads
+  pub read : ReadsAs limit image payloads
   pub index : ℕ
   pub damaged : IsDamaged payloads index
   pub place : offset ≡ end_of (take index payloads)
 
--- `NotAJournal` comes with the offset at which the file goes wrong, or with that of the first entry that is no permitted write
-abbrev pub IsStoreRefusal : ℕ → List ℕ → StartError → Type 0
-IsStoreRefusal limit file DiskFault = Unit {0}
-IsStoreRefusal limit file (NotAJournal offset) = IsWrongAt limit file offset ⊎ IsDamagedAt limit file offset
-IsStoreRefusal limit file Memory = Unit {0}
+-- `NotAJournal` comes with the offset at which the bytes go wrong, or with that of the first entry that is no permitted write
+abbrev pub IsStoreRefusal : ℕ → Image → StartError → Type 0
+IsStoreRefusal limit image DiskFault = Unit {0}
+IsStoreRefusal limit image (NotAJournal offset) = IsWrongAt limit image offset ⊎ IsDamagedAt limit image offset
+IsStoreRefusal limit image Memory = Unit {0}
 
--- the file is wrong at this offset, and the disk is as it was, also what a stop leaves of it
+-- the bytes go wrong at this offset, and the disk is as it was, also what a stop leaves of it
 pub record IsUntouched (limit : ℕ) (old new : Image) (before now : Past) (offset : ℕ) : Type 0 where
-  pub wrong : IsWrongAt limit old.zero offset
+  pub wrong : IsWrongAt limit old offset
   pub same : new ≡ old
   pub stops : LeavesOnly before now (LeftNow before)
 
--- the file reads as byte strings of which one spells no permitted write, and the disk is at rest at all of them
-pub record KeepsDamaged (limit : ℕ) (file : List ℕ) (now : Past) (offset : ℕ) : Type 0 where
+-- the image reads as byte strings of which one spells no permitted write, and the disk is at rest at all of them
+pub record KeepsDamaged (limit : ℕ) (image : Image) (now : Past) (offset : ℕ) : Type 0 where
   pub payloads : List (List ℕ)
-  pub read : ReadsAs limit file payloads
+  pub read : ReadsAs limit image payloads
   pub index : ℕ
   pub damaged : IsDamaged payloads index
   pub place : offset ≡ end_of (take index payloads)
   pub rests : IsAtRest limit now payloads
 
--- What `NotAJournal` leaves: a file that is wrong is not written to, and of a journal no byte string is lost, which may only
+-- What `NotAJournal` leaves: bytes that are no journal are not written to, and of a journal no byte string is lost, which may only
 -- have had the gate at its end closed.
 abbrev pub LeavesRefused : ℕ → Image → Image → Past → Past → StartError → Type 0
 LeavesRefused limit old new before now DiskFault = Unit {0}
-LeavesRefused limit old new before now (NotAJournal offset) = IsUntouched limit old new before now offset ⊎ KeepsDamaged limit old.zero now offset
+LeavesRefused limit old new before now (NotAJournal offset) = IsUntouched limit old new before now offset ⊎ KeepsDamaged limit old now offset
 LeavesRefused limit old new before now Memory = Unit {0}
 
 -- a fault is answered only where the count of faults rose

@@ -46,7 +46,11 @@ pub record IsAdded (payload : List ℕ) (old new : List Repo) : Type 0 where
   pub permitted : IsPermitted write old
   pub is : new ≡ applied write old
 
--- the length of a journal's file with these writes: 14 without any, and for each 5 more and its spelling
+-- how much longer one write makes a journal's file: by 5 bytes and its spelling
+abbrev pub entry_length : Write → ℕ
+entry_length w = 5 + length (spelling w)
+
+-- the length of a journal's file with these writes: 14 without any, and so much more for each
 abbrev pub length_of : List Write → ℕ
 length_of [] = 14
-length_of (w ∷ ws) = 5 + length (spelling w) + length_of ws
+length_of (w ∷ ws) = entry_length w + length_of ws

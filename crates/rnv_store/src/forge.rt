@@ -1,4 +1,4 @@
-ghost use Rattle.std.specs.Prelude.{◌≡◌, ◌≢◌, ◌≤◌, ◌↔◌, ◌++◌, ℕ, Bool, true, false, List as Items, [], drop, map, take, IfOk, IsErrOf, OnErr, OnOk};
+ghost use Rattle.std.specs.Prelude.{◌≡◌, ◌≢◌, ◌≤◌, ◌↔◌, ◌+◌, ◌++◌, ◌∷◌, ℕ, Bool, true, false, List as Items, [], drop, map, take, IfOk, IsErrOf, OnErr, OnOk};
 ghost use Rattle.std.specs.List.{AllByRecursion};
 ghost use Rattle.rnv_base.specs.Causes.{FaultsBy};
 ghost use Rattle.rnv_disk.specs.Stops.{Past};
@@ -13,14 +13,14 @@ ghost use Rattle.rnv_store.specs.declared.forge.ForgePrepareError.TheVariants.{F
 ghost use Rattle.rnv_store.specs.declared.forge.WriteError.TheVariants.{Closed as write_closed, DiskFault};
 ghost use Rattle.rnv_store.specs.Forge.{IsOldOrNext, IsOverfull, IsSamePast, LeavesWrites};
 ghost use Rattle.rnv_store.specs.Refused.{IsFirstRefused};
-ghost use Rattle.rnv_store.specs.Writes.{length_of};
+ghost use Rattle.rnv_store.specs.Writes.{entry_length, length_of};
 
 use rnv_base::{List, Text};
 use rnv_forge::{Refusal, Repo, Write};
 use std::alloc::{AllocError, Global};
 
 /// Why no writes were prepared.
-#[derive(Clone, Copy, Debug, PartialEq, Eq)]
+#[derive(Debug, Drop, PartialEq, Eq)]
 pub enum ForgePrepareError {
     /// A fault of the disk has closed the forge.
     Closed,
@@ -67,6 +67,9 @@ pub trait Forge {
     /// How often a call of its disk has failed.
     ghost faults: { Self → ℕ };
 
+    /// The length of its journal in bytes.
+    ghost length: { Self → ℕ };
+
     /// The greatest length of its journal.
     ghost limit: { Self → ℕ };
 
@@ -102,6 +105,7 @@ pub trait Forge {
         ensures err { OnErr result (prepared self.new ≡ []) }
         ensures writes { writes self.new ≡ writes self.old }
         ensures stays { closed self.new ≡ closed self.old }
+        ensures length { length self.new ≡ length self.old }
         ensures limit { limit self.new ≡ limit self.old }
         ensures faults { faults self.new ≡ faults self.old }
         ensures permitted { OnOk result (ArePermitted list (after (writes self.old) [])) }
@@ -127,6 +131,8 @@ pub trait Forge {
         ensures stays { OnErr result (prepared self.new ≡ prepared self.old) }
         ensures opened { OnOk result (closed self.new ≡ false) }
         ensures closes { OnErr result (closed self.new ≡ true) }
+        ensures longer { OnOk result ((w : Change) (ws : Items Change) → prepared self.old ≡ w ∷ ws → length self.new ≡ length self.old + entry_length w) }
+        ensures as_long { OnErr result (length self.new ≡ length self.old) }
         ensures limit { limit self.new ≡ limit self.old }
         ensures closed { IsErrOf result write_closed ↔ (closed self.old ≡ true) }
         ensures idle { closed self.old ≡ true → self.new ≡ self.old }
@@ -138,7 +144,13 @@ pub trait Forge {
     /// They are permitted in their turn, from the empty store on.
     ghost permitted: { (f : Self) → holds f → ArePermitted (writes f ++ prepared f) [] };
 
-    /// They are within the limit.
+    /// The length is that of a journal without entries, and for each write that stands 5 bytes and its spelling.
+    ghost measured: { (f : Self) → holds f → length f ≡ length_of (writes f) };
+
+    /// It is at most the limit.
+    ghost no_longer: { (f : Self) → holds f → length f ≤ limit f };
+
+    /// With those that are prepared it is within the limit too.
     ghost within: { (f : Self) → holds f → length_of (writes f ++ prepared f) ≤ limit f };
 
     /// Its limit is at most 4294967295.

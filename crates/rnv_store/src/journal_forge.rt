@@ -14,7 +14,7 @@ ghost use Rattle.rnv_store.specs.declared.forge.ForgePrepareError.TheVariants.{F
 ghost use Rattle.rnv_store.specs.declared.stored.CheckError.TheVariants.{Refused};
 ghost use Rattle.rnv_store.specs.Forge.{IsOverfull};
 ghost use Rattle.rnv_store.specs.Held.{HoldsStore, IsPrepared, IsStoreOf};
-ghost use Rattle.rnv_store.specs.Laws.{held_at_rest, held_well_formed, held_within, store_bounded, store_sound};
+ghost use Rattle.rnv_store.specs.Laws.{held_at_rest, held_length, held_no_longer, held_well_formed, held_within, store_bounded, store_sound};
 ghost use Rattle.rnv_store.specs.Refused.{IsFirstRefused};
 ghost use Rattle.rnv_store.specs.Writes.{AreWrites, IsSpelledBy, writes_in};
 
@@ -64,11 +64,11 @@ impl<D: Disk> JournalForge<D> {
         ensures other { IfOk result (λ forge. KeepsOne (D.past disk) (⟦<JournalForge<D> as Forge>⟧.past forge)) }
         ensures other_refused { IfErr result (λ refused. KeepsOne (D.past disk) (D.past refused.disk)) }
         ensures left { D.tells → IfErr result (λ refused. LeavesRefused 268435456 (D.seen disk) (D.seen refused.disk) (D.past disk) (D.past refused.disk) refused.error) }
-        ensures writes { D.tells → IfOk result (λ forge. ReadsAs 268435456 (D.seen disk).zero (map spelling (⟦<JournalForge<D> as Forge>⟧.writes forge))) }
+        ensures writes { D.tells → IfOk result (λ forge. ReadsAs 268435456 (D.seen disk) (map spelling (⟦<JournalForge<D> as Forge>⟧.writes forge))) }
         ensures none { IfOk result (λ forge. ⟦<JournalForge<D> as Forge>⟧.prepared forge ≡ []) }
         ensures limit { IfOk result (λ forge. ⟦<JournalForge<D> as Forge>⟧.limit forge ≡ 268435456) }
         ensures opened { IfOk result (λ forge. ⟦<JournalForge<D> as Forge>⟧.closed forge ≡ false) }
-        ensures refused { D.tells → IfErr result (λ refused. IsStoreRefusal 268435456 (D.seen disk).zero refused.error) }
+        ensures refused { D.tells → IfErr result (λ refused. IsStoreRefusal 268435456 (D.seen disk) refused.error) }
         ensures later { IfOk result (λ forge. D.faults disk ≤ ⟦<JournalForge<D> as Forge>⟧.faults forge) }
         ensures cause { IfErr result (λ refused. RefusedBy (D.faults disk) (D.faults refused.disk) refused.error) }
     {
@@ -89,9 +89,9 @@ impl<D: Disk> JournalForge<D> {
         ensures other { IfOk result (λ forge. KeepsOne (D.past disk) (D.past forge.disk)) }
         ensures other_refused { IfErr result (λ refused. KeepsOne (D.past disk) (D.past refused.disk)) }
         ensures left { D.tells → IfErr result (λ refused. LeavesRefused limit (D.seen disk) (D.seen refused.disk) (D.past disk) (D.past refused.disk) refused.error) }
-        ensures entries { D.tells → IfOk result (λ forge. ReadsAs limit (D.seen disk).zero forge.journal.entries) }
+        ensures entries { D.tells → IfOk result (λ forge. ReadsAs limit (D.seen disk) forge.journal.entries) }
         ensures fresh { IfOk result (λ forge. (forge.journal.prepared ≡ []) × (forge.journal.limit ≡ limit) × (forge.journal.closed ≡ false)) }
-        ensures refused { D.tells → IfErr result (λ refused. IsStoreRefusal limit (D.seen disk).zero refused.error) }
+        ensures refused { D.tells → IfErr result (λ refused. IsStoreRefusal limit (D.seen disk) refused.error) }
         ensures later { IfOk result (λ forge. D.faults disk ≤ D.faults forge.disk) }
         ensures cause { IfErr result (λ refused. RefusedBy (D.faults disk) (D.faults refused.disk) refused.error) }
     {
@@ -103,6 +103,23 @@ impl<D: Disk> JournalForge<D> {
             }),
             Err(error) => Err(StartRefused { error, disk }),
         }
+    }
+
+    /// How many writes stand.
+    pub fn count(&self) -> usize
+        requires { ⟦<JournalForge<D> as Forge>⟧.holds self.now }
+        ensures { result ≡ length (⟦<JournalForge<D> as Forge>⟧.writes self.now) }
+    {
+        self.journal.count()
+    }
+
+    /// The length of the journal in bytes, which is within the limit.
+    pub fn length(&self) -> u64
+        requires { ⟦<JournalForge<D> as Forge>⟧.holds self.now }
+        ensures counted { result ≡ ⟦<JournalForge<D> as Forge>⟧.length self.now }
+        ensures within { result ≤ ⟦<JournalForge<D> as Forge>⟧.limit self.now }
+    {
+        self.journal.length()
     }
 
     /// The disk as it stands.
@@ -123,6 +140,8 @@ impl<D: Disk> Forge for JournalForge<D> {
 
     ghost faults = { λ f. D.faults f.disk };
 
+    ghost length = { λ f. counted f.journal.entries };
+
     ghost limit = { λ f. f.journal.limit };
 
     ghost past = { λ f. D.past f.disk };
@@ -132,6 +151,10 @@ impl<D: Disk> Forge for JournalForge<D> {
     ghost well_formed = { λ f h. held_well_formed f.journal (D.past f.disk) h.writes };
 
     ghost permitted = { λ f h. h.writes.permitted };
+
+    ghost measured = { λ f h. held_length f.journal (D.past f.disk) h.writes };
+
+    ghost no_longer = { λ f h. held_no_longer f.journal (D.past f.disk) h.writes };
 
     ghost within = { λ f h. held_within f.journal (D.past f.disk) h.writes };
 

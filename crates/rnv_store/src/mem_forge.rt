@@ -1,8 +1,9 @@
-ghost use Rattle.std.specs.Prelude.{◌≡◌, ◌≢◌, ◌≤◌, ◌↔◌, ◌+◌, ◌-◌, ◌^◌, ℕ, true, false, [], ◌++◌, length, map, min, take, drop, IfOk, IsErrOf, OnErr, OnOk};
+ghost use Rattle.std.specs.Prelude.{◌≡◌, ◌≢◌, ◌≤◌, ◌↔◌, ◌+◌, ◌-◌, ◌^◌, ℕ, true, false, List as Items, [], ◌∷◌, ◌++◌, length, refl, map, min, take, drop, IfOk, IsErrOf, OnErr, OnOk};
 ghost use Rattle.std.specs.List.{AllByRecursion};
 ghost use Rattle.rnv_base.specs.Causes.{FaultsBy};
 ghost use Rattle.rnv_base.specs.Turns.{IsListed, first_turn, next_turn};
 ghost use Rattle.rnv_forge.specs.declared.refusal.Refusal.{Refusal as Cause};
+ghost use Rattle.rnv_forge.specs.declared.write.Write.{Write as Change};
 ghost use Rattle.rnv_forge.specs.Store.{ArePermitted, after};
 ghost use Rattle.rnv_forge.specs.WellFormed.{IsOrderly, IsWellFormed};
 ghost use Rattle.rnv_journal.specs.Readings.{KeepsOne};
@@ -11,10 +12,10 @@ ghost use Rattle.rnv_store.specs.declared.forge.ForgePrepareError.TheVariants.{F
 ghost use Rattle.rnv_store.specs.declared.forge.WriteError.TheVariants.{Closed as write_closed, DiskFault};
 ghost use Rattle.rnv_store.specs.declared.stored.CheckError.TheVariants.{Refused};
 ghost use Rattle.rnv_store.specs.Forge.{IsOldOrNext, IsOverfull, LeavesWrites};
-ghost use Rattle.rnv_store.specs.InMemory.{HoldsInMemory, in_memory_permitted, in_memory_well_formed, in_memory_within, no_past, nothing_at_rest};
+ghost use Rattle.rnv_store.specs.InMemory.{HoldsInMemory, in_memory_permitted, in_memory_length, in_memory_well_formed, in_memory_within, no_past, nothing_at_rest};
 ghost use Rattle.rnv_store.specs.Laws.{store_bounded, store_sound};
 ghost use Rattle.rnv_store.specs.Refused.{IsFirstRefused};
-ghost use Rattle.rnv_store.specs.Writes.{length_of};
+ghost use Rattle.rnv_store.specs.Writes.{entry_length, length_of};
 
 use crate::store::Store;
 use crate::stored::{CheckError, checked};
@@ -64,6 +65,24 @@ impl MemForge {
             closed: false,
         }
     }
+
+    /// How many writes stand.
+    pub fn count(&self) -> usize
+        requires { ⟦<MemForge as Forge>⟧.holds self.now }
+        ensures { result ≡ length (⟦<MemForge as Forge>⟧.writes self.now) }
+    {
+        self.done
+    }
+
+    /// The length in bytes that a journal of the writes would have, which is within the limit. Only memory can fail.
+    pub fn length(&self, alloc: Global) -> Result<u64, AllocError>
+        requires { ⟦<MemForge as Forge>⟧.holds self.now }
+        ensures counted { IfOk result (λ length. length ≡ ⟦<MemForge as Forge>⟧.length self.now) }
+        ensures within { IfOk result (λ length. length ≤ ⟦<MemForge as Forge>⟧.limit self.now) }
+    {
+        let length = lengthened(alloc, 14, &self.all[..self.done])?;
+        Ok(length)
+    }
 }
 
 impl Forge for MemForge {
@@ -75,6 +94,8 @@ impl Forge for MemForge {
 
     ghost faults = { λ f. f.faults };
 
+    ghost length = { λ f. length_of (take f.done f.all.items) };
+
     ghost limit = { λ f. f.limit };
 
     ghost past = { λ f. no_past };
@@ -84,6 +105,10 @@ impl Forge for MemForge {
     ghost well_formed = { λ f h. in_memory_well_formed f.all.items f.done f.limit h };
 
     ghost permitted = { λ f h. in_memory_permitted f.all.items f.done f.limit h };
+
+    ghost measured = { λ f h. refl };
+
+    ghost no_longer = { λ f h. in_memory_length f.all.items f.done f.limit h };
 
     ghost within = { λ f h. in_memory_within f.all.items f.done f.limit h };
 
@@ -131,6 +156,8 @@ impl Forge for MemForge {
         ensures stays { OnErr result (drop self.new.done self.new.all.items ≡ drop self.old.done self.old.all.items) }
         ensures opened { OnOk result (self.new.closed ≡ false) }
         ensures closes { OnErr result (self.new.closed ≡ true) }
+        ensures longer { OnOk result ((w : Change) (ws : Items Change) → drop self.old.done self.old.all.items ≡ w ∷ ws → length_of (take self.new.done self.new.all.items) ≡ length_of (take self.old.done self.old.all.items) + entry_length w) }
+        ensures as_long { OnErr result (length_of (take self.new.done self.new.all.items) ≡ length_of (take self.old.done self.old.all.items)) }
         ensures limit { self.new.limit ≡ self.old.limit }
         ensures closed { IsErrOf result write_closed ↔ (self.old.closed ≡ true) }
         ensures idle { self.old.closed ≡ true → self.new ≡ self.old }

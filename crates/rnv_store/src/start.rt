@@ -33,9 +33,9 @@ pub(crate) fn started<D: Disk>(
     ensures left { D.tells → IfErr result (LeavesRefused limit (D.seen disk.old) (D.seen disk.new) (D.past disk.old) (D.past disk.new)) }
     ensures holds { IfOk result (λ started. HoldsWrites started.journal (D.past disk.new)) }
     ensures store { IfOk result (λ started. IsStoreOf started.journal started.store) }
-    ensures entries { D.tells → IfOk result (λ started. ReadsAs limit (D.seen disk.old).zero started.journal.entries) }
+    ensures entries { D.tells → IfOk result (λ started. ReadsAs limit (D.seen disk.old) started.journal.entries) }
     ensures fresh { IfOk result (λ started. (started.journal.prepared ≡ []) × (started.journal.limit ≡ limit) × (started.journal.closed ≡ false)) }
-    ensures refused { D.tells → IfErr result (λ error. IsStoreRefusal limit (D.seen disk.old).zero error) }
+    ensures refused { D.tells → IfErr result (λ error. IsStoreRefusal limit (D.seen disk.old) error) }
     ensures cause { FaultsBy (D.faults disk.old) (D.faults disk.new) result StartError.DiskFault }
 {
     match Journal::start(alloc, disk, limit) {

@@ -136,6 +136,8 @@ fn writes_stand_after_a_start(rt: HostRuntime) -> Result<(), Fail> {
     let alloc = rt.alloc();
     let mut forge = started(alloc, disk(alloc, b"", &[])?, 1000)?;
     assert_eq!(rt; write_three(&mut forge, alloc)?, [Ok(()), Ok(()), Ok(())]);
+    // Without entries 14, and 5 more and the payload for each: 35, 36 and 35 bytes.
+    assert_eq!(rt; (forge.count(), forge.length()), (3, 135));
     let disk = forge.into_disk();
     let payload =
         b"\x01\x00\x00\x00\x03a/b\x00\x00\x00\x01\x00\x00\x00\x0cpackage.json\x01\x00\x00\x00\x02{}\x00";
@@ -153,6 +155,7 @@ fn writes_stand_in_memory(rt: HostRuntime) -> Result<(), Fail> {
     let alloc = rt.alloc();
     let mut forge = MemForge::new(alloc, 1000, List::empty(alloc));
     assert_eq!(rt; write_three(&mut forge, alloc)?, [Ok(()), Ok(()), Ok(())]);
+    assert_eq!(rt; (forge.count(), forge.length(alloc)?), (3, 135));
     let (count, repo) = first_repo(&forge, alloc)?;
     assert_eq!(rt; (count, repo.name.as_str(), repo.revision), (2, "a/b", 2));
     Ok(())
@@ -191,9 +194,8 @@ fn prepare_both<F: Forge>(
     Ok([first, second])
 }
 
-#[test]
-fn writes_that_are_refused(rt: HostRuntime) -> Result<(), Fail> {
-    let alloc = rt.alloc();
+// Why both are refused: one write is of no known repository, and for the others 60 bytes are too few.
+fn refusals() -> [Result<(), ForgePrepareError>; 2] {
     let unknown = ForgePrepareError::Refused {
         index: 1,
         cause: Refusal::UnknownRepo,
@@ -203,10 +205,16 @@ fn writes_that_are_refused(rt: HostRuntime) -> Result<(), Fail> {
         length: 68,
         limit: 60,
     };
+    [Err(unknown), Err(full)]
+}
+
+#[test]
+fn writes_that_are_refused(rt: HostRuntime) -> Result<(), Fail> {
+    let alloc = rt.alloc();
     let mut forge = started(alloc, disk(alloc, EMPTY, &[])?, 60)?;
-    assert_eq!(rt; prepare_both(&mut forge, alloc)?, [Err(unknown), Err(full)]);
+    assert_eq!(rt; prepare_both(&mut forge, alloc)?, refusals());
     let mut forge = MemForge::new(alloc, 60, List::empty(alloc));
-    assert_eq!(rt; prepare_both(&mut forge, alloc)?, [Err(unknown), Err(full)]);
+    assert_eq!(rt; prepare_both(&mut forge, alloc)?, refusals());
     Ok(())
 }
 
@@ -222,15 +230,19 @@ fn write_and_prepare<F: Forge>(
     Ok((written, prepared))
 }
 
+// The answers where the first write meets a fault of the disk.
+fn closed() -> (Result<(), WriteError>, Result<(), ForgePrepareError>) {
+    (Err(WriteError::DiskFault), Err(ForgePrepareError::Closed))
+}
+
 #[test]
 fn a_fault_closes_the_forge(rt: HostRuntime) -> Result<(), Fail> {
     let alloc = rt.alloc();
-    let closed = (Err(WriteError::DiskFault), Err(ForgePrepareError::Closed));
     // A start of a made journal makes two calls.
     let mut forge = started(alloc, disk(alloc, EMPTY, &[2])?, 1000)?;
-    assert_eq!(rt; write_and_prepare(&mut forge, alloc)?, closed);
+    assert_eq!(rt; write_and_prepare(&mut forge, alloc)?, closed());
     let failing = List::new(Vec::from_slice(alloc, &[0])?);
     let mut forge = MemForge::new(alloc, 1000, failing);
-    assert_eq!(rt; write_and_prepare(&mut forge, alloc)?, closed);
+    assert_eq!(rt; write_and_prepare(&mut forge, alloc)?, closed());
     Ok(())
 }

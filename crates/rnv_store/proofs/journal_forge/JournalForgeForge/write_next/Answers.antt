@@ -1,11 +1,12 @@
 use Rattle.std.proofs.Common.{sym, ap, subst, ◌∙◌}
+use Rattle.rnv_journal.specs.File.{counted}
 use Rattle.rnv_journal.specs.Held.{Held}
 use Rattle.rnv_journal.specs.Readings.{IsAtRest}
 use Rattle.rnv_store.specs.Held.{HoldsStore}
 use Rattle.rnv_store.specs.Writes.{writes_in}
 use Rattle.rnv_store.proofs.Kept.{next_kept}
 use Rattle.rnv_store.proofs.Preparing.{held_closed}
-use Rattle.rnv_store.proofs.Turns.{next_holds, next_prepared, next_reads, next_writes}
+use Rattle.rnv_store.proofs.Turns.{next_holds, next_longer, next_prepared, next_reads, next_writes}
 use Rattle.rnv_store.proofs.journal_forge.JournalForgeForge.write_next.Goals as goal
 
 pub returns-in-Ok-clause-holds : goal.returns-in-Ok-clause-holds
@@ -24,6 +25,9 @@ returns-in-Ok-clause-ok g c = ap (λ (h : Held). writes_in h.entries) c.in-Ok.en
 
 pub returns-in-Ok-clause-next : goal.returns-in-Ok-clause-next
 returns-in-Ok-clause-next g c = ap (λ (h : Held). writes_in h.prepared) c.in-Ok.ensures.ok ∙ next_prepared c.args.self.now.journal _ c.requires.holds.writes
+
+pub returns-in-Ok-clause-longer : goal.returns-in-Ok-clause-longer
+returns-in-Ok-clause-longer g c w ws is = ap (λ (h : Held). counted h.entries) c.in-Ok.ensures.ok ∙ next_longer c.args.self.now.journal _ c.requires.holds.writes w ws is
 
 pub returns-in-Err-DiskFault-clause-any_moment : goal.returns-in-Err-DiskFault-clause-any_moment
 returns-in-Err-DiskFault-clause-any_moment g c open' = next_reads c.args.self.now.journal _ c.requires.holds.writes _ (c.append_next.ensures.any_moment open')
