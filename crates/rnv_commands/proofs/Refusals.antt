@@ -23,8 +23,8 @@ pub if_done : {T E : Type 0} (result : Result T E) (P Q : T → Type 0) → ((va
 if_done (Ok value) P Q f h = f value h
 if_done (Err error) P Q f h = tt
 
-module _ (tells : Type 0) (files : List NamedFile) (name : List ℕ) (limit : ℕ) (file : List ℕ) where
-  pub not_imported : (old : List Write) → IsStored limit file old → (error : CommandError) → IsImportRefusal tells files name limit old error → IsNotImported tells files name limit file error
+module _ (tells : Type 0) (files : List NamedFile) (name : List ℕ) (limit : ℕ) (image : Image) where
+  pub not_imported : (old : List Write) → IsStored limit image old → (error : CommandError) → IsImportRefusal tells files name limit old error → IsNotImported tells files name limit image error
   not_imported old stored Memory r = tt
   not_imported old stored UnknownRepo r = record { old = old; stored = stored; refused = r }
   not_imported old stored FolderFault r = record { old = old; stored = stored; refused = r }
@@ -32,7 +32,7 @@ module _ (tells : Type 0) (files : List NamedFile) (name : List ℕ) (limit : �
   not_imported old stored (NotAJournal offset) r = absurd r
   not_imported old stored (Limit which number) r = record { old = old; stored = stored; refused = r }
 
-  pub not_shown : (writes : List Write) → IsStored limit file writes → (error : CommandError) → IsShowRefusal (after writes []) name error → IsNotShown name limit file error
+  pub not_shown : (writes : List Write) → IsStored limit image writes → (error : CommandError) → IsShowRefusal (after writes []) name error → IsNotShown name limit image error
   not_shown writes stored Memory r = tt
   not_shown writes stored UnknownRepo r = record { writes = writes; stored = stored; unknown = r }
   not_shown writes stored FolderFault r = absurd r
@@ -40,15 +40,15 @@ module _ (tells : Type 0) (files : List NamedFile) (name : List ℕ) (limit : �
   not_shown writes stored (NotAJournal offset) r = absurd r
   not_shown writes stored (Limit which number) r = absurd r
 
-  pub start_not_imported : (error : StartError) (answer : CommandError) → IsStartRefusal error answer → IsStoreRefusal limit file error → IsNotImported tells files name limit file answer
-  start_not_imported start_fault answer is r = subst (IsNotImported tells files name limit file) (sym is) tt
-  start_not_imported (start_damaged offset) answer is r = subst (IsNotImported tells files name limit file) (sym is) r
-  start_not_imported start_memory answer is r = subst (IsNotImported tells files name limit file) (sym is) tt
+  pub start_not_imported : (error : StartError) (answer : CommandError) → IsStartRefusal error answer → IsStoreRefusal limit image error → IsNotImported tells files name limit image answer
+  start_not_imported start_fault answer is r = subst (IsNotImported tells files name limit image) (sym is) tt
+  start_not_imported (start_damaged offset) answer is r = subst (IsNotImported tells files name limit image) (sym is) r
+  start_not_imported start_memory answer is r = subst (IsNotImported tells files name limit image) (sym is) tt
 
-  pub start_not_shown : (error : StartError) (answer : CommandError) → IsStartRefusal error answer → IsStoreRefusal limit file error → IsNotShown name limit file answer
-  start_not_shown start_fault answer is r = subst (IsNotShown name limit file) (sym is) tt
-  start_not_shown (start_damaged offset) answer is r = subst (IsNotShown name limit file) (sym is) r
-  start_not_shown start_memory answer is r = subst (IsNotShown name limit file) (sym is) tt
+  pub start_not_shown : (error : StartError) (answer : CommandError) → IsStartRefusal error answer → IsStoreRefusal limit image error → IsNotShown name limit image answer
+  start_not_shown start_fault answer is r = subst (IsNotShown name limit image) (sym is) tt
+  start_not_shown (start_damaged offset) answer is r = subst (IsNotShown name limit image) (sym is) r
+  start_not_shown start_memory answer is r = subst (IsNotShown name limit image) (sym is) tt
 
 pub start_folder : (error : StartError) (answer : CommandError) → IsStartRefusal error answer → ¬ (IsErrOf {T = List ℕ} (Err answer) FolderFault)
 start_folder start_fault answer is folder = absurd (cc (is, folder))
@@ -78,10 +78,10 @@ module _ (limit : ℕ) (old new : Image) (before now : Past) where
   import_left tells files name most ws (NotAJournal offset) r = absurd r
   import_left tells files name most ws (Limit which number) r = tt
 
-  pub show_left : (file : List ℕ) (writes : List Write) → IsStored limit file writes → (name : List ℕ) (error : CommandError) → IsShowRefusal (after writes []) name error → LeavesNoStore limit old new before now error
-  show_left file writes stored name Memory r = tt
-  show_left file writes stored name UnknownRepo r = tt
-  show_left file writes stored name FolderFault r = tt
-  show_left file writes stored name DiskFault r = tt
-  show_left file writes stored name (NotAJournal offset) r = absurd r
-  show_left file writes stored name (Limit which number) r = tt
+  pub show_left : (image : Image) (writes : List Write) → IsStored limit image writes → (name : List ℕ) (error : CommandError) → IsShowRefusal (after writes []) name error → LeavesNoStore limit old new before now error
+  show_left image writes stored name Memory r = tt
+  show_left image writes stored name UnknownRepo r = tt
+  show_left image writes stored name FolderFault r = tt
+  show_left image writes stored name DiskFault r = tt
+  show_left image writes stored name (NotAJournal offset) r = absurd r
+  show_left image writes stored name (Limit which number) r = tt

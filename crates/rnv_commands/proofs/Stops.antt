@@ -3,13 +3,13 @@ use Rattle.std.proofs.Common.{◌≡◌, inl, inr, ⊎_elim, ℕ, List, [], ◌�
 use Rattle.std.specs.List.{AllByRecursion}
 use Rattle.rnv_base.specs.Files.{NamedFile}
 use Rattle.rnv_disk.specs.Images.{Image}
-use Rattle.rnv_disk.specs.Stops.{Past, LeftNow}
+use Rattle.rnv_disk.specs.Stops.{Past}
 use Rattle.rnv_forge.specs.Store.{ArePermitted}
 use Rattle.rnv_forge.specs.WellFormed.{IsWellFormed}
 use Rattle.rnv_forge.specs.declared.write.Write.{Write}
 use Rattle.rnv_journal.specs.Reading.{EachReading, ReadsAs}
 use Rattle.rnv_journal.specs.Readings.{HasReadingsNow, IsAtRest, IsReadingNow, KeepsOne, KeepsReadings, ReadsOnly}
-use Rattle.rnv_journal.proofs.Uses.{reads_first, reads_then, reads_weaker}
+use Rattle.rnv_journal.proofs.Uses.{each_weaker, reads_first, reads_then, reads_weaker}
 use Rattle.rnv_payload.specs.Spelling.{spelling}
 use Rattle.rnv_store.specs.Forge.{IsOldOrNext, LeavesWrites, SpellSome}
 use Rattle.rnv_store.proofs.Uses.{leaves_then, leaves_weaker, rest_leaves}
@@ -26,8 +26,8 @@ module _ (limit : ℕ) where
     before = λ t c le left. ⊎_elim (λ was. inl was) (λ each. inr (each_told (told t c left) c each)) (run.before t c le left);
   }
     where
-      each_told : tells → (c : Image) → EachReading limit P c.zero → EachReading limit Q c.zero
-      each_told t c each = record { some = each.some; each = λ list reading. weaker t list (each.each list reading) }
+      each_told : tells → (c : Image) → EachReading limit P c → EachReading limit Q c
+      each_told t c each = each_weaker limit P Q (weaker t) c each
 
   module _ (tells : Type 0) (entry mid new : Past) (old : List Write) (keeps : KeepsReadings limit entry mid) (reading : tells → IsReadingNow limit entry (map spelling old))
       (told : (t : ℕ) (c : Image) → new.left t c → tells) where
@@ -81,12 +81,9 @@ keeps_at past limit old back disk is keeps = subst (λ d. KeepsReadings limit ol
 pub one_at : {D : Type 0} (past : D → Past) (old : Past) (back disk : D) → back ≡ disk → KeepsOne old (past disk) → KeepsOne old (past back)
 one_at past old back disk is keeps = subst (λ d. KeepsOne old (past d)) (sym is) keeps
 
--- what a disk is read as on entry
-pub read_on_entry : (limit : ℕ) (past : Past) (seen : Image) (list : List (List ℕ)) → LeftNow past seen → ReadsAs limit seen.zero list → IsReadingNow limit past list
-read_on_entry limit past seen list left reads = record { image = seen; left = left; reading = inl reads }
-
-pub stored_of : (limit : ℕ) (file : List ℕ) (ws prepared : List Write) → ReadsAs limit file (map spelling ws) → AllByRecursion IsWellFormed (ws ++ prepared) → ArePermitted (ws ++ prepared) [] → IsStored limit file ws
-stored_of limit file ws prepared read fits permitted = record { read = read; well_formed = all_front IsWellFormed ws prepared fits; permitted = permitted_front ws prepared [] permitted }
+-- what an image is read as
+pub stored_of : (limit : ℕ) (image : Image) (ws prepared : List Write) → ReadsAs limit image (map spelling ws) → AllByRecursion IsWellFormed (ws ++ prepared) → ArePermitted (ws ++ prepared) [] → IsStored limit image ws
+stored_of limit image ws prepared read fits permitted = record { read = read; well_formed = all_front IsWellFormed ws prepared fits; permitted = permitted_front ws prepared [] permitted }
 
 -- a write behind its preparing
 pub write_leaves : (limit limit' : ℕ) (old mid new : Past) (ws ws' prepared : List Write) (w : Write) → limit' ≡ limit → ws' ≡ ws → prepared ≡ w ∷ [] → LeavesWrites limit old mid (λ vs. vs ≡ ws)

@@ -19,15 +19,15 @@ use Rattle.rnv_commands.specs.Show.{IsShowRefusal, Shows}
 use Rattle.rnv_commands.specs.declared.error.CommandError.{CommandError}
 use Rattle.rnv_commands.specs.declared.error.CommandError.TheVariants.{Memory, UnknownRepo, FolderFault, DiskFault, NotAJournal, Limit}
 
--- the file reads as these writes, which are permitted in their turn
-pub record IsStored (limit : ℕ) (file : List ℕ) (ws : List Write) : Type 0 where
-  pub read : ReadsAs limit file (map spelling ws)
+-- the image reads as these writes, which are permitted in their turn
+pub record IsStored (limit : ℕ) (image : Image) (ws : List Write) : Type 0 where
+  pub read : ReadsAs limit image (map spelling ws)
   pub well_formed : AllByRecursion IsWellFormed ws
   pub permitted : ArePermitted ws []
 
 -- the bytes go wrong at this offset: they are no journal there, or an entry is no permitted write
-abbrev pub IsDamaged : ℕ → List ℕ → ℕ → Type 0
-IsDamaged limit file offset = IsStoreRefusal limit file (start_damaged offset)
+abbrev pub IsDamaged : ℕ → Image → ℕ → Type 0
+IsDamaged limit image offset = IsStoreRefusal limit image (start_damaged offset)
 
 -- what the refusal of a start is answered with
 abbrev pub IsStartRefusal : StartError → CommandError → Type 0
@@ -35,7 +35,7 @@ IsStartRefusal start_fault error = error ≡ DiskFault
 IsStartRefusal (start_damaged offset) error = error ≡ NotAJournal offset
 IsStartRefusal start_memory error = error ≡ Memory
 
--- What a command leaves of a disk whose bytes are no store: a file that is no journal is not written to, and a journal loses nothing.
+-- What a command leaves of a disk whose bytes are no store: bytes that are no journal are not written to, and a journal loses nothing.
 abbrev pub LeavesNoStore : ℕ → Image → Image → Past → Past → CommandError → Type 0
 LeavesNoStore limit old new before now Memory = Unit {0}
 LeavesNoStore limit old new before now UnknownRepo = Unit {0}
@@ -63,44 +63,44 @@ pub record LeavesImported (tells : Type 0) (files : List NamedFile) (name : List
   pub room : length_of new ≤ limit
   pub at_rest : IsAtRest limit past (map spelling new)
 
--- an import into the store of a file, which leaves the disk at rest with the new writes, and what is printed of it
-pub record HasImported (tells : Type 0) (files : List NamedFile) (name : List ℕ) (limit : ℕ) (file : List ℕ) (past : Past) (text : List ℕ) : Type 0 where
+-- an import into the store of an image, which leaves the disk at rest with the new writes, and what is printed of it
+pub record HasImported (tells : Type 0) (files : List NamedFile) (name : List ℕ) (limit : ℕ) (image : Image) (past : Past) (text : List ℕ) : Type 0 where
   pub old : List Write
-  pub stored : IsStored limit file old
+  pub stored : IsStored limit image old
   pub imported : LeavesImported tells files name limit old past text
 
--- the import into the store of a file is refused
-pub record IsRefusedIn (tells : Type 0) (files : List NamedFile) (name : List ℕ) (limit : ℕ) (file : List ℕ) (error : CommandError) : Type 0 where
+-- the import into the store of an image is refused
+pub record IsRefusedIn (tells : Type 0) (files : List NamedFile) (name : List ℕ) (limit : ℕ) (image : Image) (error : CommandError) : Type 0 where
   pub old : List Write
-  pub stored : IsStored limit file old
+  pub stored : IsStored limit image old
   pub refused : IsImportRefusal tells files name limit old error
 
--- why a file takes no import
-abbrev pub IsNotImported : Type 0 → List NamedFile → List ℕ → ℕ → List ℕ → CommandError → Type 0
-IsNotImported tells files name limit file Memory = Unit {0}
-IsNotImported tells files name limit file UnknownRepo = IsRefusedIn tells files name limit file UnknownRepo
-IsNotImported tells files name limit file FolderFault = IsRefusedIn tells files name limit file FolderFault
-IsNotImported tells files name limit file DiskFault = Unit {0}
-IsNotImported tells files name limit file (NotAJournal offset) = IsDamaged limit file offset
-IsNotImported tells files name limit file (Limit which number) = IsRefusedIn tells files name limit file (Limit which number)
+-- why an image takes no import
+abbrev pub IsNotImported : Type 0 → List NamedFile → List ℕ → ℕ → Image → CommandError → Type 0
+IsNotImported tells files name limit image Memory = Unit {0}
+IsNotImported tells files name limit image UnknownRepo = IsRefusedIn tells files name limit image UnknownRepo
+IsNotImported tells files name limit image FolderFault = IsRefusedIn tells files name limit image FolderFault
+IsNotImported tells files name limit image DiskFault = Unit {0}
+IsNotImported tells files name limit image (NotAJournal offset) = IsDamaged limit image offset
+IsNotImported tells files name limit image (Limit which number) = IsRefusedIn tells files name limit image (Limit which number)
 
--- the store of a file has the repository, and this is its text
-pub record IsShownOf (name : List ℕ) (limit : ℕ) (file text : List ℕ) : Type 0 where
+-- the store of an image has the repository, and this is its text
+pub record IsShownOf (name : List ℕ) (limit : ℕ) (image : Image) (text : List ℕ) : Type 0 where
   pub writes : List Write
-  pub stored : IsStored limit file writes
+  pub stored : IsStored limit image writes
   pub shows : Shows (after writes []) name text
 
--- the store of a file does not have it
-pub record IsUnknownIn (name : List ℕ) (limit : ℕ) (file : List ℕ) : Type 0 where
+-- the store of an image does not have it
+pub record IsUnknownIn (name : List ℕ) (limit : ℕ) (image : Image) : Type 0 where
   pub writes : List Write
-  pub stored : IsStored limit file writes
+  pub stored : IsStored limit image writes
   pub unknown : IsShowRefusal (after writes []) name UnknownRepo
 
--- why nothing is shown of a file
-abbrev pub IsNotShown : List ℕ → ℕ → List ℕ → CommandError → Type 0
-IsNotShown name limit file Memory = Unit {0}
-IsNotShown name limit file UnknownRepo = IsUnknownIn name limit file
-IsNotShown name limit file FolderFault = ⊥
-IsNotShown name limit file DiskFault = Unit {0}
-IsNotShown name limit file (NotAJournal offset) = IsDamaged limit file offset
-IsNotShown name limit file (Limit which number) = ⊥
+-- why nothing is shown of an image
+abbrev pub IsNotShown : List ℕ → ℕ → Image → CommandError → Type 0
+IsNotShown name limit image Memory = Unit {0}
+IsNotShown name limit image UnknownRepo = IsUnknownIn name limit image
+IsNotShown name limit image FolderFault = ⊥
+IsNotShown name limit image DiskFault = Unit {0}
+IsNotShown name limit image (NotAJournal offset) = IsDamaged limit image offset
+IsNotShown name limit image (Limit which number) = ⊥

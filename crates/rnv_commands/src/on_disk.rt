@@ -89,8 +89,8 @@ pub fn import_on<D: Disk, O: Folder>(
     // File `One` is left alone, and what is no store is not written over.
     ensures other { KeepsOne (D.past disk) (D.past result.disk) }
     ensures left { D.tells → IfErr result.text (LeavesNoStore 268435456 (D.seen disk) (D.seen result.disk) (D.past disk) (D.past result.disk)) }
-    ensures imported { D.tells → IfOk result.text (HasImported O.tells (O.files folder.old) name.now 268435456 (D.seen disk).zero (D.past result.disk)) }
-    ensures refused { D.tells → IfErr result.text (IsNotImported O.tells (O.files folder.old) name.now 268435456 (D.seen disk).zero) }
+    ensures imported { D.tells → IfOk result.text (HasImported O.tells (O.files folder.old) name.now 268435456 (D.seen disk) (D.past result.disk)) }
+    ensures refused { D.tells → IfErr result.text (IsNotImported O.tells (O.files folder.old) name.now 268435456 (D.seen disk)) }
     ensures same { O.tells → (O.files folder.new ≡ O.files folder.old) }
     ensures folder_cause { FaultsBy (O.faults folder.old) (O.faults folder.new) result.text folder_fault }
     ensures disk_cause { FaultsBy (D.faults disk) (D.faults result.disk) result.text disk_fault }
@@ -116,8 +116,8 @@ pub fn show_on<D: Disk>(alloc: Global, disk: D, name: &Text) -> Answer<D>
     // File `One` is left alone, and what is no store is not written over.
     ensures other { KeepsOne (D.past disk) (D.past result.disk) }
     ensures left { D.tells → IfErr result.text (LeavesNoStore 268435456 (D.seen disk) (D.seen result.disk) (D.past disk) (D.past result.disk)) }
-    ensures shown { D.tells → IfOk result.text (IsShownOf name.now 268435456 (D.seen disk).zero) }
-    ensures refused { D.tells → IfErr result.text (IsNotShown name.now 268435456 (D.seen disk).zero) }
+    ensures shown { D.tells → IfOk result.text (IsShownOf name.now 268435456 (D.seen disk)) }
+    ensures refused { D.tells → IfErr result.text (IsNotShown name.now 268435456 (D.seen disk)) }
     ensures never { ¬ IsErrOf result.text folder_fault }
     ensures cause { FaultsBy (D.faults disk) (D.faults result.disk) result.text disk_fault }
 {
