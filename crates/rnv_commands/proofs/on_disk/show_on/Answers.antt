@@ -28,7 +28,7 @@ returns-in-Err-clause-cause g c = start_cause _ _ c.in-Err.field-0.error c.not_s
 pub returns-in-Ok-clause-left : goal.returns-in-Ok-clause-left
 returns-in-Ok-clause-left g c = λ t.
     if_err c.show_repo-text.result _ _
-    (λ error refused. show_left _ _ _ _ _ _ _ (stored_of _ _ _ _ (c.in-Ok.ensures.writes t) c.stands.ensures.well_formed c.stands.ensures.permitted) c.args.name.now error refused)
+    (λ error refused. show_left _ _ _ _ _ (g.D.Disk.seen c.args.disk) _ (stored_of _ _ _ _ (c.in-Ok.ensures.writes t) c.stands.ensures.well_formed c.stands.ensures.permitted) c.args.name.now error refused)
     c.show_repo-text.ensures.refused
 
 pub returns-in-Err-clause-left : goal.returns-in-Err-clause-left
