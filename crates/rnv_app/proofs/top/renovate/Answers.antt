@@ -63,7 +63,7 @@ returns-clause-run_exactly g c = λ repo now asked t d error cause.
     run_exactly _ repo now _ _ _ _ _ _ (run_is _ _ _ c.answer_to-text.ensures.answered _ _ _ _ _ _ c.tell-code.ensures.told repo now asked) t d error cause
 
 pub returns-clause-damaged : goal.returns-clause-damaged
-returns-clause-damaged g c = λ d repo asked offset damaged. store_damaged _ _ _ c.answer_to-text.ensures.answered _ _ _ _ _ _ c.tell-code.ensures.told d repo asked offset damaged
+returns-clause-damaged g c = λ repo asked d offset damaged. store_damaged _ _ _ c.answer_to-text.ensures.answered _ _ _ _ _ _ c.tell-code.ensures.told d repo asked offset damaged
 
 pub returns-clause-import_complete : goal.returns-clause-import_complete
 returns-clause-import_complete g c = λ repo asked t d free.
