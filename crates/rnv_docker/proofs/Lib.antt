@@ -1,0 +1,5 @@
+mod Feeds
+mod Images
+mod Lines
+mod Tests
+mod Words
