@@ -1,5 +1,6 @@
 mod Feeds
 mod Images
 mod Lines
+mod Stages
 mod Tests
 mod Words

@@ -1,6 +1,6 @@
 -- Lines and their words: what is spelled is read, and what is read is the line.
 use Rattle.std.proofs.Common.{◌≡◌, ℕ, suc, ◌+◌, ◌-◌, ◌≤◌, ◌<◌, true, false, List, [], ◌∷◌, ◌++◌, length, take, drop, get_or, IsUtf8, IsCharBoundary, refl, sym, ap, subst, ◌∙◌, arith, inl, inr, length-append}
-use Rattle.std.specs.Prelude.{⊤, not, Bool, ◌&&◌}
+use Rattle.std.specs.Prelude.{⊤, not, Bool, ◌&&◌, nat_eq}
 use Rattle.std.specs.List.{list_all}
 use Rattle.std.proofs.lemmas.Bool.{cases_Bool}
 use Rattle.std.proofs.lemmas.Bool.Decides.{nat_tests}
@@ -217,3 +217,17 @@ first-word xs ys e some =
       gap = s.front;
       are = ap words (s.whole ∙ ap (λ (l : List ℕ). s.front ++ l) (sym e)) ∙ gap-over s.front ys (take (length ys - length (skip is_ink ys)) ys) (words (drop (length ys - length (skip is_ink ys)) ys)) s.passes (first-of xs ys halted some);
     }
+
+pub empty-is : (xs : List ℕ) → nat_eq (length xs) 0 ≡ true → xs ≡ []
+empty-is [] e = refl
+empty-is (x ∷ xs) e = absurd (let wrong : suc (length xs) ≡ 0 = grind (arith, nat_tests) in omega arith)
+
+pub not-empty : (xs : List ℕ) → nat_eq (length xs) 0 ≡ false → xs ≡ [] → ⊥
+not-empty xs e none = let wrong : false ≡ true = sym e ∙ ap (λ (l : List ℕ). nat_eq (length l) 0) none in cc
+
+-- the same, by what two calls gave
+pub first-given : (xs ys rest front back : List ℕ) → ys ≡ skip is_space xs → (ys ≡ [] → ⊥) → rest ≡ skip is_ink ys → front ≡ take (length ys - length rest) ys → back ≡ drop (length ys - length rest) ys → IsFirst xs front back
+first-given xs ys rest front back e some left f b =
+    let at = ap (λ (r : List ℕ). length ys - length r) left in
+    subst (λ (l : List ℕ). IsFirst xs l back) (sym (f ∙ ap (λ (n : ℕ). take n ys) at))
+    (subst (λ (l : List ℕ). IsFirst xs (take (length ys - length (skip is_ink ys)) ys) l) (sym (b ∙ ap (λ (n : ℕ). drop n ys) at)) (first-word xs ys e some))
