@@ -1,14 +1,16 @@
 -- The last colon of an image.
-use Rattle.std.proofs.Common.{◌≡◌, ℕ, suc, ◌<◌, true, false, List, [], ◌∷◌, ◌++◌, length, take, drop, Option, Some, None, refl, sym, ap, subst, ◌∙◌, arith, inl, inr, length-append, append_assoc}
-use Rattle.std.specs.Prelude.{nat_eq, not, ◌&&◌}
+use Rattle.std.proofs.Common.{◌≡◌, ℕ, suc, ◌+◌, ◌<◌, get_or, IsUtf8, IsCharBoundary, length-take, true, false, List, [], ◌∷◌, ◌++◌, length, take, drop, Option, Some, None, refl, sym, ap, subst, ◌∙◌, arith, inl, inr, length-append, append_assoc}
+use Rattle.std.specs.Prelude.{nat_eq, not, ◌&&◌, ◌||◌, Bool, codes, option_and_then}
+use Rattle.std.specs.Str.{bytes_eq}
 use Rattle.std.specs.List.{list_all}
 use Rattle.std.proofs.lemmas.Bool.{cases_Bool}
 use Rattle.std.proofs.lemmas.Bool.Decides.{nat_tests}
-use Rattle.std.proofs.lemmas.List.{append-nil, take_at, drop_at}
+use Rattle.std.proofs.lemmas.Str.{IsCharBoundary-after_ascii}
+use Rattle.std.proofs.lemmas.List.{append-nil, take_at, get_or_at}
 use Rattle.std.proofs.lemmas.Option.{same_Some}
-use Rattle.rnv_docker.specs.Images.{parted, at_colon}
-use Rattle.rnv_docker.specs.Read.{IsColon}
-use Rattle.rnv_docker.proofs.Tests.{if-true, if-false, and_true, not_true, some_or_none}
+use Rattle.rnv_docker.specs.Images.{parted, at_colon, is_plain_byte, is_passed, is_tag, if_tag, tagged}
+use Rattle.rnv_docker.specs.Read.{IsColon, IsTagged}
+use Rattle.rnv_docker.proofs.Tests.{if-true, if-false, and_true, both, neither, not_true, some_or_none}
 
 -- behind a colon stands none
 pub at_colon-at : (front behind : List ℕ) → at_colon behind ≡ None → at_colon (front ++ 58 ∷ behind) ≡ Some (front, behind)
@@ -80,3 +82,61 @@ left-colon bytes rest front x h e c =
   drop-colon : (a b : List ℕ) → drop (suc (length a)) (a ++ 58 ∷ b) ≡ b
   drop-colon [] b = refl
   drop-colon (y ∷ a) b = drop-colon a b
+
+-- ---- the tag
+
+and-false : (a b : Bool) → b ≡ false → (a && b) ≡ false
+and-false true b h = h
+and-false false b h = refl
+
+-- a text without a colon is another one
+pub other-text : (front behind wanted : List ℕ) → list_all (λ x. not (nat_eq x 58)) wanted ≡ true → bytes_eq (front ++ 58 ∷ behind) wanted ≡ false
+other-text [] behind [] e = refl
+other-text (x ∷ front) behind [] e = refl
+other-text [] behind (c ∷ wanted) e =
+    let h = and_true (not (nat_eq c 58)) (list_all (λ x. not (nat_eq x 58)) wanted) e in
+    let no : nat_eq 58 c ≡ false = grind (arith, nat_tests) in
+    rw no refl
+other-text (x ∷ front) behind (c ∷ wanted) e =
+    let h = and_true (not (nat_eq c 58)) (list_all (λ x. not (nat_eq x 58)) wanted) e in
+    and-false (nat_eq x c) (bytes_eq (front ++ 58 ∷ behind) wanted) (other-text front behind wanted h.1)
+
+-- an image with a colon there, its tag and what is tested of it
+pub tagged-some : (image name tag : List ℕ) (at : ℕ) → IsColon image at → name ≡ take at image → tag ≡ drop (suc at) image → list_all is_plain_byte image ≡ true → is_tag tag ≡ true → IsTagged image name tag
+tagged-some image name tag at h n t plain good =
+    let p : List ℕ × List ℕ = (take at image, drop (suc at) image) in
+    let q : List ℕ × List ℕ = (name, tag) in
+    let no-scratch : bytes_eq image (codes "scratch") ≡ false = ap (λ (l : List ℕ). bytes_eq l (codes "scratch")) h.whole ∙ other-text (take at image) (drop (suc at) image) (codes "scratch") refl in
+    let passed : is_passed [] image ≡ false = neither (bytes_eq image (codes "scratch") || false) (not (list_all is_plain_byte image)) (neither (bytes_eq image (codes "scratch")) false no-scratch refl) (ap not plain) in
+    let good-too : is_tag (drop (suc at) image) ≡ true = ap is_tag (sym t) ∙ good in
+    let given : if_tag [] image p ≡ Some p = if-true (not (is_passed [] image) && is_tag (drop (suc at) image)) (Some p) None (both (not (is_passed [] image)) (is_tag (drop (suc at) image)) (ap not passed) good-too) in
+    let first : p ≡ q = ap (λ (l : List ℕ). halved l (drop (suc at) image)) (sym n) ∙ ap (λ (l : List ℕ). halved name l) (sym t) in
+    record { is = ap (option_and_then (if_tag [] image)) h.is ∙ (given ∙ ap (λ (r : List ℕ × List ℕ). Some r) first) } where
+  halved : List ℕ → List ℕ → List ℕ × List ℕ
+  halved a b = (a, b)
+
+pub tagged-unplain : (image : List ℕ) → list_all is_plain_byte image ≡ false → tagged [] image ≡ None
+tagged-unplain image e =
+    elim (some_or_none (at_colon image)) [
+      | inl none ↦ ap (option_and_then (if_tag [] image)) none
+      | inr some ↦
+          let passed : is_passed [] image ≡ true = or-true (bytes_eq image (codes "scratch") || false) (not (list_all is_plain_byte image)) (ap not e) in
+          let failed : (not (is_passed [] image) && is_tag some.0.1) ≡ false = ap (λ (b : Bool). not b && is_tag some.0.1) passed in
+          ap (option_and_then (if_tag [] image)) some.1 ∙ if-false (not (is_passed [] image) && is_tag some.0.1) (Some some.0) None failed
+    ] where
+  or-true : (a b : Bool) → b ≡ true → (a || b) ≡ true
+  or-true true b h = refl
+  or-true false b h = h
+
+pub tagged-untagged : (image tag : List ℕ) (at : ℕ) → IsColon image at → tag ≡ drop (suc at) image → is_tag tag ≡ false → tagged [] image ≡ None
+tagged-untagged image tag at h t bad =
+    let p : List ℕ × List ℕ = (take at image, drop (suc at) image) in
+    let failed : (not (is_passed [] image) && is_tag (drop (suc at) image)) ≡ false = and-false (not (is_passed [] image)) (is_tag (drop (suc at) image)) (ap is_tag (sym t) ∙ bad) in
+    ap (option_and_then (if_tag [] image)) h.is ∙ if-false (not (is_passed [] image) && is_tag (drop (suc at) image)) (Some p) None failed
+
+-- A text can be cut behind a colon.
+pub behind-colon : (text : List ℕ) (at : ℕ) → IsUtf8 text → IsColon text at → IsCharBoundary text (at + 1)
+behind-colon text at utf8 h =
+    let w = h.within in
+    let byte : get_or text at 0 ≡ 58 = ap (λ (l : List ℕ). get_or l at 0) h.whole ∙ get_or_at (take at text) 58 (drop (suc at) text) 0 at (omega (arith, length-take at text)) in
+    IsCharBoundary-after_ascii text at utf8 w (omega arith)

@@ -2,5 +2,6 @@ mod Feeds
 mod Images
 mod Lines
 mod Stages
+mod Steps
 mod Tests
 mod Words
