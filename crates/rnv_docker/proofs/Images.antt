@@ -140,3 +140,6 @@ behind-colon text at utf8 h =
     let w = h.within in
     let byte : get_or text at 0 ≡ 58 = ap (λ (l : List ℕ). get_or l at 0) h.whole ∙ get_or_at (take at text) 58 (drop (suc at) text) 0 at (omega (arith, length-take at text)) in
     IsCharBoundary-after_ascii text at utf8 w (omega arith)
+
+pub drop-suc : (image tag : List ℕ) (at : ℕ) → tag ≡ drop (at + 1) image → tag ≡ drop (suc at) image
+drop-suc image tag at e = let n : at + 1 ≡ suc at = omega arith in e ∙ ap (λ (k : ℕ). drop k image) n
