@@ -77,11 +77,12 @@ left-colon bytes rest front x h e c =
       whole = whole ∙ (ap (λ (l : List ℕ). l ++ 58 ∷ h.behind) (sym front-is) ∙ ap (λ (l : List ℕ). take (length front) bytes ++ 58 ∷ l) (sym back-is));
       is = ap at_colon whole ∙ (at_colon-at front h.behind h.none ∙ (ap (λ (l : List ℕ). halves l h.behind) (sym front-is) ∙ ap (λ (l : List ℕ). halves (take (length front) bytes) l) (sym back-is)));
     } where
-  halves : List ℕ → List ℕ → Option (List ℕ × List ℕ)
-  halves a b = Some (a, b)
-  drop-colon : (a b : List ℕ) → drop (suc (length a)) (a ++ 58 ∷ b) ≡ b
-  drop-colon [] b = refl
-  drop-colon (y ∷ a) b = drop-colon a b
+      halves : List ℕ → List ℕ → Option (List ℕ × List ℕ)
+      halves a b = Some (a, b)
+
+      drop-colon : (a b : List ℕ) → drop (suc (length a)) (a ++ 58 ∷ b) ≡ b
+      drop-colon [] b = refl
+      drop-colon (y ∷ a) b = drop-colon a b
 
 -- ---- the tag
 
@@ -112,8 +113,8 @@ tagged-some image name tag at h n t plain good =
     let given : if_tag [] image p ≡ Some p = if-true (not (is_passed [] image) && is_tag (drop (suc at) image)) (Some p) None (both (not (is_passed [] image)) (is_tag (drop (suc at) image)) (ap not passed) good-too) in
     let first : p ≡ q = ap (λ (l : List ℕ). halved l (drop (suc at) image)) (sym n) ∙ ap (λ (l : List ℕ). halved name l) (sym t) in
     record { is = ap (option_and_then (if_tag [] image)) h.is ∙ (given ∙ ap (λ (r : List ℕ × List ℕ). Some r) first) } where
-  halved : List ℕ → List ℕ → List ℕ × List ℕ
-  halved a b = (a, b)
+      halved : List ℕ → List ℕ → List ℕ × List ℕ
+      halved a b = (a, b)
 
 pub tagged-unplain : (image : List ℕ) → list_all is_plain_byte image ≡ false → tagged [] image ≡ None
 tagged-unplain image e =
@@ -124,9 +125,9 @@ tagged-unplain image e =
           let failed : (not (is_passed [] image) && is_tag some.0.1) ≡ false = ap (λ (b : Bool). not b && is_tag some.0.1) passed in
           ap (option_and_then (if_tag [] image)) some.1 ∙ if-false (not (is_passed [] image) && is_tag some.0.1) (Some some.0) None failed
     ] where
-  or-true : (a b : Bool) → b ≡ true → (a || b) ≡ true
-  or-true true b h = refl
-  or-true false b h = h
+      or-true : (a b : Bool) → b ≡ true → (a || b) ≡ true
+      or-true true b h = refl
+      or-true false b h = h
 
 pub tagged-untagged : (image tag : List ℕ) (at : ℕ) → IsColon image at → tag ≡ drop (suc at) image → is_tag tag ≡ false → tagged [] image ≡ None
 tagged-untagged image tag at h t bad =

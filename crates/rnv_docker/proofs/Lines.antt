@@ -65,9 +65,9 @@ goes_on-no (x ∷ xs) e =
       | inl b ↦ if-true (is_empty xs) (nat_eq x 92) (goes_on xs) b ∙ denied (nat_eq x 92) h.0
       | inr b ↦ if-false (is_empty xs) (nat_eq x 92) (goes_on xs) b ∙ goes_on-no xs h.1
     ] where
-  denied : (b : Bool) → not b ≡ true → b ≡ false
-  denied true k = absurd cc
-  denied false k = refl
+      denied : (b : Bool) → not b ≡ true → b ≡ false
+      denied true k = absurd cc
+      denied false k = refl
 
 -- a byte that is neither a space nor a tab decides
 pub is_comment-front : (xs : List ℕ) (y : ℕ) (ys zs : List ℕ) → is_blank y ≡ false → is_comment (xs ++ y ∷ ys) ≡ is_comment (xs ++ y ∷ zs)
@@ -84,23 +84,23 @@ has_here-parts [] y ys e = rw e refl
 has_here-parts (x ∷ []) y ys e =
     let more = has_here-parts [] y ys e in
     joined (nat_eq x 60) (nat_eq y 60) (has_here (y ∷ ys)) (has_here ys) e more where
-  joined : (a b c d : Bool) → b ≡ false → c ≡ d → ((a && b) || c) ≡ (((a && false) || false) || d)
-  joined true true c d k h = absurd cc
-  joined false true c d k h = absurd cc
-  joined true false c d k h = h
-  joined false false c d k h = h
+      joined : (a b c d : Bool) → b ≡ false → c ≡ d → ((a && b) || c) ≡ (((a && false) || false) || d)
+      joined true true c d k h = absurd cc
+      joined false true c d k h = absurd cc
+      joined true false c d k h = h
+      joined false false c d k h = h
 has_here-parts (x ∷ z ∷ zs) y ys e =
     let more = has_here-parts (z ∷ zs) y ys e in
     joined (nat_eq x 60 && nat_eq z 60) (has_here (z ∷ (zs ++ y ∷ ys))) (has_here (z ∷ zs)) (has_here ys) more where
-  joined : (a b c d : Bool) → b ≡ (c || d) → (a || b) ≡ ((a || c) || d)
-  joined true b c d h = refl
-  joined false b c d h = h
+      joined : (a b c d : Bool) → b ≡ (c || d) → (a || b) ≡ ((a || c) || d)
+      joined true b c d h = refl
+      joined false b c d h = h
 
 pub has_here-no : (xs : List ℕ) → list_all (λ x. not (nat_eq x 60)) xs ≡ true → has_here xs ≡ false
 has_here-no [] e = refl
 has_here-no (x ∷ xs) e =
     let h = and_true (not (nat_eq x 60)) (list_all (λ x. not (nat_eq x 60)) xs) e in
     none (nat_eq x 60) (begins_with 60 xs) (has_here xs) h.0 (has_here-no xs h.1) where
-  none : (a b c : Bool) → not a ≡ true → c ≡ false → ((a && b) || c) ≡ false
-  none true b c k d = absurd cc
-  none false b c k d = d
+      none : (a b c : Bool) → not a ≡ true → c ≡ false → ((a && b) || c) ≡ false
+      none true b c k d = absurd cc
+      none false b c k d = d

@@ -18,11 +18,11 @@ imaging-some front text image rest f named =
     elim (some_or_none (naming (words rest))) [
       | inl none ↦ absurd (let wrong : false ≡ true = sym (ap is_some none) ∙ named in cc)
       | inr some ↦ record {
-          stage = stage_with (front ++ f.gap) image (words rest) some.0;
-          is = ap (imaging front) f.are ∙ ap (option_map (stage_with (front ++ f.gap) image (words rest))) some.1;
-          same_image = refl;
-          same_back = spelled-words rest;
-        }
+        stage = stage_with (front ++ f.gap) image (words rest) some.0;
+        is = ap (imaging front) f.are ∙ ap (option_map (stage_with (front ++ f.gap) image (words rest))) some.1;
+        same_image = refl;
+        same_back = spelled-words rest;
+      }
     ]
 
 pub flagged-plain : (front text first rest : List ℕ) (r : Option (Bor (List ℕ) × Bor (List ℕ))) → IsFirst text first rest → is_platform first ≡ false → Gives r (imaging front (words text)) → Gives r (flagged front (words text))

@@ -160,13 +160,13 @@ pub gap-boundary : (xs : List ℕ) → IsUtf8 xs → IsCharBoundary xs (length x
 gap-boundary xs utf8 =
     let s = skips is_space xs in
     subst (λ (n : ℕ). IsCharBoundary xs n) (sym (cut-length xs s.front (skip is_space xs) s.whole)) (behind s.front (skip is_space xs) s.whole s.passes) where
-  behind : (front rest : List ℕ) → xs ≡ front ++ rest → list_all is_space front ≡ true → IsCharBoundary xs (length front)
-  behind [] rest e h = IsCharBoundary-start xs utf8
-  behind (x ∷ front) rest e h =
-      let n = ap length e in
-      let last : is_space (get_or xs (length front) 0) ≡ true = subst (λ (l : List ℕ). is_space (get_or l (length front) 0) ≡ true) (sym e) (all-at is_space (x ∷ front) rest (length front) h (omega arith)) in
-      let plus : length front + 1 ≡ suc (length front) = omega arith in
-      subst (λ (k : ℕ). IsCharBoundary xs k) plus (IsCharBoundary-after_ascii xs (length front) utf8 (omega (arith, length-append (x ∷ front) rest)) (space-ascii (get_or xs (length front) 0) last))
+      behind : (front rest : List ℕ) → xs ≡ front ++ rest → list_all is_space front ≡ true → IsCharBoundary xs (length front)
+      behind [] rest e h = IsCharBoundary-start xs utf8
+      behind (x ∷ front) rest e h =
+          let n = ap length e in
+          let last : is_space (get_or xs (length front) 0) ≡ true = subst (λ (l : List ℕ). is_space (get_or l (length front) 0) ≡ true) (sym e) (all-at is_space (x ∷ front) rest (length front) h (omega arith)) in
+          let plus : length front + 1 ≡ suc (length front) = omega arith in
+          subst (λ (k : ℕ). IsCharBoundary xs k) plus (IsCharBoundary-after_ascii xs (length front) utf8 (omega (arith, length-append (x ∷ front) rest)) (space-ascii (get_or xs (length front) 0) last))
 
 no-ink : (x : ℕ) → is_ink x ≡ false → is_space x ≡ true
 no-ink x e = denied (is_space x) e where
@@ -183,13 +183,13 @@ pub word-boundary : (xs : List ℕ) → IsCharBoundary xs (length xs - length (s
 word-boundary xs =
     let s = skips is_ink xs in
     subst (λ (n : ℕ). IsCharBoundary xs n) (sym (cut-length xs s.front (skip is_ink xs) s.whole)) (before s.front (skip is_ink xs) s.whole (stops (skip is_ink xs) (halts is_ink xs))) where
-  before : (front rest : List ℕ) → xs ≡ front ++ rest → Stops rest → IsCharBoundary xs (length front)
-  before front [] e h = subst (λ (l : List ℕ). IsCharBoundary xs (length l)) (e ∙ append-nil front) (IsCharBoundary-end xs)
-  before front (x ∷ rest) e h =
-      let n = ap length e in
-      let byte : get_or xs (length front) 0 ≡ x = ap (λ (l : List ℕ). get_or l (length front) 0) e ∙ get_or_at front x rest 0 (length front) refl in
-      let ascii = space-ascii x h in
-      IsCharBoundary-before_ascii xs (length front) (omega (arith, length-append front (x ∷ rest))) (omega arith)
+      before : (front rest : List ℕ) → xs ≡ front ++ rest → Stops rest → IsCharBoundary xs (length front)
+      before front [] e h = subst (λ (l : List ℕ). IsCharBoundary xs (length l)) (e ∙ append-nil front) (IsCharBoundary-end xs)
+      before front (x ∷ rest) e h =
+          let n = ap length e in
+          let byte : get_or xs (length front) 0 ≡ x = ap (λ (l : List ℕ). get_or l (length front) 0) e ∙ get_or_at front x rest 0 (length front) refl in
+          let ascii = space-ascii x h in
+          IsCharBoundary-before_ascii xs (length front) (omega (arith, length-append front (x ∷ rest))) (omega arith)
 
 pub no-word : (xs : List ℕ) → skip is_space xs ≡ [] → (gap : List ℕ) × (words xs ≡ spaces gap)
 no-word xs e =
@@ -203,10 +203,10 @@ first-of xs ys h some =
     at s.front (skip is_ink ys) s.whole s.passes (stops (skip is_ink ys) (halts is_ink ys)) h
     ∙ ap (λ (l : List ℕ). word [] l (words (skip is_ink ys))) (sym (cut-front ys s.front (skip is_ink ys) s.whole))
     ∙ ap (λ (l : List ℕ). word [] (take (length ys - length (skip is_ink ys)) ys) (words l)) (sym (cut-back ys s.front (skip is_ink ys) s.whole)) where
-  at : (front rest : List ℕ) → ys ≡ front ++ rest → list_all is_ink front ≡ true → Stops rest → Halts is_space ys → words ys ≡ word [] front (words rest)
-  at [] [] e p q k = absurd (some e)
-  at [] (x ∷ rest) e p q k = let starts : is_space x ≡ false = subst (Halts is_space) e k in absurd (let wrong : true ≡ false = sym q ∙ starts in cc)
-  at (x ∷ front) rest e p q k = ap words e ∙ word-over x front rest p q
+      at : (front rest : List ℕ) → ys ≡ front ++ rest → list_all is_ink front ≡ true → Stops rest → Halts is_space ys → words ys ≡ word [] front (words rest)
+      at [] [] e p q k = absurd (some e)
+      at [] (x ∷ rest) e p q k = let starts : is_space x ≡ false = subst (Halts is_space) e k in absurd (let wrong : true ≡ false = sym q ∙ starts in cc)
+      at (x ∷ front) rest e p q k = ap words e ∙ word-over x front rest p q
 
 -- the first word and what is behind it, where something is left behind the spaces
 pub first-word : (xs ys : List ℕ) → ys ≡ skip is_space xs → (ys ≡ [] → ⊥) → IsFirst xs (take (length ys - length (skip is_ink ys)) ys) (drop (length ys - length (skip is_ink ys)) ys)

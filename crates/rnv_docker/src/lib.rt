@@ -1,13 +1,9 @@
-//! The dependencies in a Dockerfile: the tags of the images that its stages begin from.
+//! The dependencies in a Dockerfile: the tags of the images that its stages begin from. So far it has the
+//! scanner alone; nothing is public yet.
 #![tactic(auto)]
 
 mod image;
 mod line;
-mod manager;
 mod reading;
 mod stage;
-#[cfg(test)]
-mod tests;
 mod word;
-
-pub use manager::DockerManager;

@@ -68,11 +68,7 @@ fn find<'a>(image: &'a str, back: &'a str, end: usize) -> Option<Tagged<'a>>
 }
 
 // Reads a line that ends at that place in the file.
-fn read_line<'a>(
-    reading: &mut Reading<'a>,
-    line: &'a str,
-    end: usize,
-) -> Result<(), ExtractError>
+fn read_line<'a>(reading: &mut Reading<'a>, line: &'a str, end: usize) -> Result<(), ExtractError>
     requires { length line.now ≤ end }
     ensures ok { IfOk result (λ _. state reading.new ≡ step (state reading.old) line.now end) }
     ensures err { IfErr result (λ e. e ≡ Memory) }
@@ -137,7 +133,9 @@ pub fn finds<'a>(alloc: Global, file: &'a str) -> Result<Vec<Found<'a>>, Extract
     };
     read_lines(&mut reading, file)?;
     let Reading {
-        mut found, last, ..
+        mut found,
+        last,
+        ..
     } = reading;
     add(&mut found, last, "final")?;
     Ok(found)

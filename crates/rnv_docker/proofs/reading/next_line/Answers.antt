@@ -1,4 +1,3 @@
-
 use Rattle.rnv_docker.proofs.Feeds.{first-line}
 use Rattle.rnv_docker.proofs.reading.next_line.Goals as goal
 
