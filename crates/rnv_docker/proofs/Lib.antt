@@ -1,6 +1,9 @@
+mod Again
 mod Feeds
 mod Images
 mod Lines
+mod Parts
+mod Pieces
 mod Stages
 mod Steps
 mod Tests

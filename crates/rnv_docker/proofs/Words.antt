@@ -152,7 +152,7 @@ cut-front xs front rest e = ap (λ (n : ℕ). take n xs) (cut-length xs front re
 pub skip-cut : (p : ℕ → Bool) (xs : List ℕ) → drop (length xs - length (skip p xs)) xs ≡ skip p xs
 skip-cut p xs = let s = skips p xs in cut-back xs s.front (skip p xs) s.whole
 
-space-ascii : (x : ℕ) → is_space x ≡ true → x < 128
+pub space-ascii : (x : ℕ) → is_space x ≡ true → x < 128
 space-ascii x e = grind (arith, nat_tests)
 
 -- The text can be cut behind the spaces at its front.
