@@ -1,0 +1,10 @@
+mod Again
+mod Feeds
+mod Images
+mod Lines
+mod Parts
+mod Pieces
+mod Stages
+mod Steps
+mod Tests
+mod Words

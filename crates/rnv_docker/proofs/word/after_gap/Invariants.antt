@@ -1,0 +1,10 @@
+use Rattle.std.proofs.Common.{◌≡◌, ◌≤◌, length}
+use Rattle.rnv_docker.specs.Lines.{is_space}
+use Rattle.rnv_docker.specs.Read.{skip}
+use Rattle.rnv_docker.proofs.word.after_gap.Given as goal
+
+abbrev pub invariant-loop-rest : goal.invariant-loop-rest
+invariant-loop-rest l = (skip is_space l.rest ≡ skip is_space l.bytes) × (length l.rest ≤ length l.bytes)
+
+abbrev pub decreases-loop-rest : goal.decreases-loop-rest
+decreases-loop-rest l = length l.rest
