@@ -58,5 +58,4 @@ impl Manager for DockerManager {
 pub fn keeps_tags(_manager: &DockerManager)
     ensures every { (file : Items ℕ) → IsRead file (pieces file) }
     ensures law { KeepsLaw IsRead is_tag_text }
-{
-}
+{}
