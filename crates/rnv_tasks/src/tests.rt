@@ -82,45 +82,6 @@ fn shown_calls(alloc: Global, calls: &[TaskCall]) -> Result<String, Fail> {
     Ok(shown)
 }
 
-// With a `|` between them: the operator's list, the commands, what programs give, the files, and then what
-// the files become, the problem and the calls.
-const ROWS: [&str; 10] = [
-    "sort;|sort;|sort:b=1.1.0\na=2.0.0\n:0:a=2.0.0\nb=1.1.0\n;|versions.txt:b=1.1.0\na=2.0.0\n;|versions.txt:a=2.0.0\nb=1.1.0\n;||sort :b=1.1.0\na=2.0.0\n;",
-    // A status other than 0, also that of a program without an answer.
-    "sort;|sort;|sort:b:1:a;|versions.txt:b;|versions.txt:b;|versions.txt: sort ended with 1|sort :b;",
-    "sort;|sort;||a:b;|a:b;|a: sort ended with 255|sort :b;",
-    "sort;|sort;|sort:b:0:;|a:b;|a:;||sort :b;",
-    // Each command works on what the one before it gave, and nothing is kept where a later one fails.
-    "up;down;|up;down;|up:1:0:2;down:2:0:3;|a:1;|a:3;||up :1;down :2;",
-    "up;|up;down;|up:1:0:2;down:2:0:3;|a:1;|a:1;|a: down is not allowed|up :1;",
-    // The operator's list has whole texts; words are what stands between spaces.
-    "sort -r;sort  -r ;|sort  -r ;sort -r;|sort -r:1:0:2;sort -r:2:0:1;|a:1;|a:1;||sort -r :1;sort -r :2;",
-    "sort;|sort -r;||a:1;|a:1;|a: sort -r is not allowed|",
-    " ;;| ;||a:1;|a:1;|a:   is not allowed|",
-    // Each file by itself, in order; problems stand in one text.
-    "up;|up;|up:1:0:2;up:2:3:;|a:1;b:2;c:1;d:4;|a:2;b:2;c:2;d:4;|b: up ended with 3; d: up ended with 255|up :1;up :2;up :1;up :4;",
-];
-
-#[test]
-fn runs_tasks(rt: HostRuntime) -> Result<(), Fail> {
-    let alloc = rt.alloc();
-    for row in ROWS {
-        let mut fields = row.split('|');
-        let allowed = texts(alloc, fields.next().ok_or("no list")?)?;
-        let commands = texts(alloc, fields.next().ok_or("no commands")?)?;
-        let given = answers(alloc, fields.next().ok_or("no answers")?)?;
-        let files = files(alloc, fields.next().ok_or("no files")?)?;
-        let mut spawner = SteadySpawner::new(alloc, given);
-        let done = tasked(alloc, &mut spawner, &allowed, &commands, &files).map_err(|_| "fault")?;
-        let shown = shown_files(alloc, done.files.as_slice())?;
-        assert_eq!(rt; shown.as_str(), fields.next().ok_or("no files")?);
-        assert_eq!(rt; done.problem.as_str(), fields.next().ok_or("no problem")?);
-        let shown = shown_calls(alloc, spawner.calls())?;
-        assert_eq!(rt; shown.as_str(), fields.next().ok_or("no calls")?);
-    }
-    Ok(())
-}
-
 // As many bytes.
 fn many(alloc: Global, count: usize) -> Result<Bytes, AllocError> {
     Ok(Bytes::new(vec![in alloc; b'a'; count]?))
