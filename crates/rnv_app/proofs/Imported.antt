@@ -12,12 +12,12 @@ use Rattle.rnv_commands.specs.declared.error.CommandError.TheVariants as command
 use Rattle.rnv_commands.proofs.Unique.{one_difference}
 use Rattle.rnv_disk.specs.Images.{Image}
 use Rattle.rnv_disk.specs.Stops.{Past}
-use Rattle.rnv_forge.specs.Files.{PathChange}
-use Rattle.rnv_forge.specs.declared.write.Write.{Write}
-use Rattle.rnv_forge.specs.declared.write.Write.TheVariants.{SetBase}
+use Rattle.rnv_repo.specs.Files.{PathChange}
+use Rattle.rnv_repo.specs.declared.write.Write.{Write}
+use Rattle.rnv_repo.specs.declared.write.Write.TheVariants.{SetBase}
 use Rattle.rnv_plan.proofs.Bases.{kept-one, none-above, within-above}
 use Rattle.rnv_run.proofs.Exact.{one_stored}
-use Rattle.rnv_store.specs.Writes.{length_of}
+use Rattle.rnv_forge.specs.Writes.{length_of}
 use Rattle.rnv_app.specs.End.{code_of, refusal_of}
 use Rattle.rnv_app.specs.Top.{HasNoImport, IsCaused}
 

@@ -15,7 +15,7 @@ use Rattle.rnv_plan.specs.declared.error.RunError.TheVariants as run
 use Rattle.rnv_plan.specs.Plan.{IsPlanned, IsPlanRefusal}
 use Rattle.rnv_run.specs.declared.on_disk.RunRefusal.{RunRefusal}
 use Rattle.rnv_run.specs.OnDisk.{HasRepo, IsRefusedIn, Runs}
-use Rattle.rnv_store.specs.Start.{LeavesRefused}
+use Rattle.rnv_forge.specs.Start.{LeavesRefused}
 use Rattle.rnv_app.specs.declared.end.Refusal.{Refusal}
 use Rattle.rnv_app.specs.declared.end.Refusal.TheVariants.{Memory, Usage, UnknownRepo, FolderFault, DiskFault, NotAJournal, Limit, IndexRefused, NotBuilt}
 use Rattle.rnv_app.specs.Words.{IsImport, IsPlan, IsRun, IsShow, IsUsage}

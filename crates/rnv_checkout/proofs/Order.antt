@@ -10,7 +10,7 @@ use Rattle.std.specs.Cmp.Lexicographic.{slice_cmp}
 use Rattle.std.proofs.lemmas.List.Elements.{All-from_recursion}
 use Rattle.rnv_base.specs.Files.{NamedFile, IsRising}
 use Rattle.rnv_base.specs.Names.{IsPath}
-use Rattle.rnv_forge.specs.WellFormed.{AreInOrder}
+use Rattle.rnv_repo.specs.WellFormed.{AreInOrder}
 use Rattle.rnv_checkout.specs.Base.{kept_of, IsPlaced}
 
 itself : (x : ℕ) (r : Ordering) → MatchOrdering r (x < x) (x ≡ x) (x < x) → r ≡ Equal

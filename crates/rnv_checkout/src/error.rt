@@ -1,5 +1,5 @@
 use rnv_base::{List, Text};
-use rnv_forge::EditedFile;
+use rnv_repo::EditedFile;
 use std::alloc::AllocError;
 
 /// The checked-out files of a repository that are kept, by their paths in it, and how many others

@@ -3,7 +3,7 @@ ghost use Rattle.rnv_base.specs.Files.{NamedFile};
 ghost use Rattle.rnv_checkout.specs.Gathered.{IsGathered};
 
 use rnv_base::List;
-use rnv_forge::EditedFile;
+use rnv_repo::EditedFile;
 use std::alloc::{AllocError, Global};
 use std::convert::AsSlice;
 

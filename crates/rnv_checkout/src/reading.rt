@@ -3,7 +3,7 @@ ghost use Rattle.std.specs.List.{AllZip};
 ghost use Rattle.rnv_base.specs.Causes.{FaultsBy};
 ghost use Rattle.rnv_base.specs.Files.{NamedFile, IsRising, listed_of};
 ghost use Rattle.rnv_checkout.specs.Base.{folder_of, IsBase, IsOutcome, IsPlaced, IsWithin};
-ghost use Rattle.rnv_forge.specs.WellFormed.{AreInOrder};
+ghost use Rattle.rnv_repo.specs.WellFormed.{AreInOrder};
 ghost use Rattle.rnv_checkout.specs.Gathered.{IsGathered};
 ghost use Rattle.rnv_checkout.specs.Refusal.{IsPlain, IsRefusal};
 ghost use Rattle.rnv_checkout.specs.declared.error.BaseError.TheVariants.{FolderFault as fault};
@@ -13,7 +13,7 @@ use crate::judging::judged;
 use crate::keeping::{are_kept_bytes, is_kept_path};
 use crate::{BaseError, FolderBase};
 use rnv_base::{Folder, FolderError, List, Text};
-use rnv_forge::EditedFile;
+use rnv_repo::EditedFile;
 use std::alloc::{AllocError, Global};
 use std::convert::{AsSlice, AsStr};
 

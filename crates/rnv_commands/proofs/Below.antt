@@ -8,8 +8,8 @@ use Rattle.std.specs.declared.cmp.Ordering.TheVariants.{Less, Equal, Greater}
 use Rattle.std.specs.Ordering.{is_lt}
 use Rattle.std.proofs.lemmas.Cmp.{nat_list_cmp_total}
 use Rattle.rnv_commands.specs.Difference.{IsBelow}
-use Rattle.rnv_forge.specs.Named.{IsRisingBy}
-use Rattle.rnv_forge.proofs.Texts.{cmp, same_texts, greater_back, all_weaker}
+use Rattle.rnv_repo.specs.Named.{IsRisingBy}
+use Rattle.rnv_repo.proofs.Texts.{cmp, same_texts, greater_back, all_weaker}
 
 module _ {X : Type 0} (key : X → List ℕ) (path : List ℕ) where
   abbrev pub count : List X → ℕ

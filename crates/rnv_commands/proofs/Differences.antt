@@ -8,12 +8,12 @@ use Rattle.std.specs.Ordering.{is_lt}
 use Rattle.std.proofs.lemmas.Cmp.{nat_list_cmp_total}
 use Rattle.std.proofs.lemmas.List.{append-nil, take-append-drop}
 use Rattle.rnv_base.specs.Files.{NamedFile}
-use Rattle.rnv_forge.specs.Base.{differs, path_of, is_changing}
-use Rattle.rnv_forge.specs.Files.{MarkedFile, PathChange}
-use Rattle.rnv_forge.specs.Merging.{change_path}
-use Rattle.rnv_forge.specs.Named.{IsRisingBy, at}
-use Rattle.rnv_forge.proofs.Merges.{AreBefore, at_behind, at_none, changed_behind, changing_behind, front_changing, front_sets, merges_same}
-use Rattle.rnv_forge.proofs.Texts.{cmp, bytes_refl, bytes_true, equal_texts, all_weaker}
+use Rattle.rnv_repo.specs.Base.{differs, path_of, is_changing}
+use Rattle.rnv_repo.specs.Files.{MarkedFile, PathChange}
+use Rattle.rnv_repo.specs.Merging.{change_path}
+use Rattle.rnv_repo.specs.Named.{IsRisingBy, at}
+use Rattle.rnv_repo.proofs.Merges.{AreBefore, at_behind, at_none, changed_behind, changing_behind, front_changing, front_sets, merges_same}
+use Rattle.rnv_repo.proofs.Texts.{cmp, bytes_refl, bytes_true, equal_texts, all_weaker}
 use Rattle.rnv_commands.specs.Difference.{IsBelow, IsDifference, IsTurn, named_path, plain, removal, setting}
 use Rattle.rnv_commands.proofs.Below.{below_front, not_below, above_rest}
 

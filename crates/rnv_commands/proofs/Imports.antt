@@ -10,22 +10,22 @@ use Rattle.std.proofs.lemmas.List.Elements.{All-nil, All-from_recursion, recursi
 use Rattle.rnv_base.specs.Files.{NamedFile}
 use Rattle.rnv_base.specs.Names.{IsPath}
 use Rattle.rnv_checkout.specs.Base.{IsWithin, size_of}
-use Rattle.rnv_forge.specs.Base.{changed, is_changing, is_over, path_of}
-use Rattle.rnv_forge.specs.Files.{MarkedFile, PathChange}
-use Rattle.rnv_forge.specs.Bounded.{IsBounded}
-use Rattle.rnv_forge.specs.Store.{IsPermitted, IsSound, IsSoundStore, after, applied, applied_to, known, refusal, refusal_to, refused_if}
-use Rattle.rnv_forge.specs.WellFormed.{AreInOrder}
-use Rattle.rnv_forge.specs.declared.refusal.Refusal.{Refusal}
-use Rattle.rnv_forge.specs.declared.refusal.Refusal.TheVariants.{BaseFull, NoChange}
-use Rattle.rnv_forge.specs.declared.repo.Repo.{Repo}
-use Rattle.rnv_forge.specs.declared.write.Write.{Write}
-use Rattle.rnv_forge.specs.declared.write.Write.TheVariants.{SetBase}
-use Rattle.rnv_forge.proofs.Texts.{bytes_true}
-use Rattle.rnv_store.specs.Forge.{IsOldOrNext}
-use Rattle.rnv_store.specs.Refused.{IsFirstRefused}
-use Rattle.rnv_store.specs.Writes.{length_of}
-use Rattle.rnv_store.proofs.ByName.{applied_name, known_all}
-use Rattle.rnv_store.proofs.Writes.{after_both}
+use Rattle.rnv_repo.specs.Base.{changed, is_changing, is_over, path_of}
+use Rattle.rnv_repo.specs.Files.{MarkedFile, PathChange}
+use Rattle.rnv_repo.specs.Bounded.{IsBounded}
+use Rattle.rnv_repo.specs.Store.{IsPermitted, IsSound, IsSoundStore, after, applied, applied_to, known, refusal, refusal_to, refused_if}
+use Rattle.rnv_repo.specs.WellFormed.{AreInOrder}
+use Rattle.rnv_repo.specs.declared.refusal.Refusal.{Refusal}
+use Rattle.rnv_repo.specs.declared.refusal.Refusal.TheVariants.{BaseFull, NoChange}
+use Rattle.rnv_repo.specs.declared.repo.Repo.{Repo}
+use Rattle.rnv_repo.specs.declared.write.Write.{Write}
+use Rattle.rnv_repo.specs.declared.write.Write.TheVariants.{SetBase}
+use Rattle.rnv_repo.proofs.Texts.{bytes_true}
+use Rattle.rnv_forge.specs.Forge.{IsOldOrNext}
+use Rattle.rnv_forge.specs.Refused.{IsFirstRefused}
+use Rattle.rnv_forge.specs.Writes.{length_of}
+use Rattle.rnv_forge.proofs.ByName.{applied_name, known_all}
+use Rattle.rnv_forge.proofs.Writes.{after_both}
 use Rattle.rnv_commands.specs.Difference.{IsDifference, named_path, plain}
 use Rattle.rnv_commands.specs.Import.{files_of, import_text, repo_after, revision_of, revision_with, IsImport, IsImported, IsImportRefusal, IsOldOrImport, IsOneWrite, IsPrepared, IsReadRefusal, IsReady, IsWriteRefusal, PrintsImport}
 use Rattle.rnv_commands.specs.declared.error.CommandError.{CommandError}

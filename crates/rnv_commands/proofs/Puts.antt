@@ -2,8 +2,8 @@
 use Rattle.std.proofs.Common.{◌≡◌, ℕ, false, cond, List, [], ◌∷◌, Some, refl, sym, ap, ◌∙◌}
 use Rattle.std.specs.Str.{bytes_eq}
 use Rattle.std.specs.declared.cmp.Ordering.TheVariants.{Less, Equal, Greater}
-use Rattle.rnv_forge.specs.Named.{at, put, put_beside}
-use Rattle.rnv_forge.proofs.Texts.{cmp, bytes_refl, bytes_true, greater_back, less_other, same_texts}
+use Rattle.rnv_repo.specs.Named.{at, put, put_beside}
+use Rattle.rnv_repo.proofs.Texts.{cmp, bytes_refl, bytes_true, greater_back, less_other, same_texts}
 
 module _ {X : Type 0} (key : X → List ℕ) (x : X) where
   first : (more : List X) → at key (key x) (x ∷ more) ≡ Some x

@@ -5,11 +5,11 @@ use Rattle.rnv_base.specs.Causes.{FaultsBy}
 use Rattle.rnv_base.specs.Files.{NamedFile}
 use Rattle.rnv_disk.specs.Images.{Image}
 use Rattle.rnv_disk.specs.Stops.{Past}
-use Rattle.rnv_forge.specs.Store.{after}
-use Rattle.rnv_forge.specs.declared.write.Write.{Write}
+use Rattle.rnv_repo.specs.Store.{after}
+use Rattle.rnv_repo.specs.declared.write.Write.{Write}
 use Rattle.rnv_journal.specs.declared.start.StartError.{StartError}
 use Rattle.rnv_journal.specs.declared.start.StartError.TheVariants.{DiskFault as start_fault, NotAJournal as start_damaged, Memory as start_memory}
-use Rattle.rnv_store.specs.Start.{IsStoreRefusal, LeavesRefused, RefusedBy}
+use Rattle.rnv_forge.specs.Start.{IsStoreRefusal, LeavesRefused, RefusedBy}
 use Rattle.rnv_commands.specs.Import.{IsImportRefusal}
 use Rattle.rnv_commands.specs.OnDisk.{IsNotImported, IsNotShown, IsStartRefusal, IsStored, LeavesNoStore}
 use Rattle.rnv_commands.specs.Show.{IsShowRefusal}

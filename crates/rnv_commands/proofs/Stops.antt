@@ -4,16 +4,16 @@ use Rattle.std.specs.List.{AllByRecursion}
 use Rattle.rnv_base.specs.Files.{NamedFile}
 use Rattle.rnv_disk.specs.Images.{Image}
 use Rattle.rnv_disk.specs.Stops.{Past}
-use Rattle.rnv_forge.specs.Store.{ArePermitted}
-use Rattle.rnv_forge.specs.WellFormed.{IsWellFormed}
-use Rattle.rnv_forge.specs.declared.write.Write.{Write}
+use Rattle.rnv_repo.specs.Store.{ArePermitted}
+use Rattle.rnv_repo.specs.WellFormed.{IsWellFormed}
+use Rattle.rnv_repo.specs.declared.write.Write.{Write}
 use Rattle.rnv_journal.specs.Reading.{EachReading, ReadsAs}
 use Rattle.rnv_journal.specs.Readings.{HasReadingsNow, IsAtRest, IsReadingNow, KeepsOne, KeepsReadings, ReadsOnly}
 use Rattle.rnv_journal.proofs.Uses.{each_weaker, reads_first, reads_then, reads_weaker}
-use Rattle.rnv_payload.specs.Spelling.{spelling}
-use Rattle.rnv_store.specs.Forge.{IsOldOrNext, LeavesWrites, SpellSome}
-use Rattle.rnv_store.proofs.Uses.{leaves_then, leaves_weaker, rest_leaves}
-use Rattle.rnv_store.proofs.Writes.{all_front, permitted_front}
+use Rattle.rnv_spelling.specs.Spelling.{spelling}
+use Rattle.rnv_forge.specs.Forge.{IsOldOrNext, LeavesWrites, SpellSome}
+use Rattle.rnv_forge.proofs.Uses.{leaves_then, leaves_weaker, rest_leaves}
+use Rattle.rnv_forge.proofs.Writes.{all_front, permitted_front}
 use Rattle.rnv_commands.specs.Import.{IsOldOrImport}
 use Rattle.rnv_commands.specs.OnDisk.{IsReadingOrImport, IsStored}
 

@@ -7,12 +7,12 @@ use Rattle.std.specs.Str.{bytes_eq}
 use Rattle.std.specs.declared.cmp.Ordering.TheVariants.{Less, Equal, Greater}
 use Rattle.std.proofs.lemmas.Cmp.{nat_list_cmp_total}
 use Rattle.rnv_base.specs.Files.{NamedFile}
-use Rattle.rnv_forge.specs.Base.{changed, differs, mark, path_of, with_bytes}
-use Rattle.rnv_forge.specs.Files.{MarkedFile, PathChange}
-use Rattle.rnv_forge.specs.Merging.{change_path}
-use Rattle.rnv_forge.specs.Named.{IsRisingBy, at, without}
-use Rattle.rnv_forge.proofs.Merges.{at_none}
-use Rattle.rnv_forge.proofs.Texts.{cmp, all_weaker, bytes_refl, bytes_true, greater_back, same_texts}
+use Rattle.rnv_repo.specs.Base.{changed, differs, mark, path_of, with_bytes}
+use Rattle.rnv_repo.specs.Files.{MarkedFile, PathChange}
+use Rattle.rnv_repo.specs.Merging.{change_path}
+use Rattle.rnv_repo.specs.Named.{IsRisingBy, at, without}
+use Rattle.rnv_repo.proofs.Merges.{at_none}
+use Rattle.rnv_repo.proofs.Texts.{cmp, all_weaker, bytes_refl, bytes_true, greater_back, same_texts}
 use Rattle.rnv_commands.specs.Difference.{IsDifference, plain}
 use Rattle.rnv_commands.proofs.Puts.{at_other, at_put}
 

@@ -6,10 +6,10 @@ use Rattle.std.specs.Ordering.{nat_cmp}
 use Rattle.std.specs.Cmp.Lexicographic.{slice_cmp}
 use Rattle.rnv_base.specs.Files.{NamedFile}
 use Rattle.rnv_base.specs.Names.{IsPath}
-use Rattle.rnv_forge.specs.Base.{changed, differs, is_changing, path_of}
-use Rattle.rnv_forge.specs.Files.{MarkedFile, PathChange}
-use Rattle.rnv_forge.specs.Merging.{change_path}
-use Rattle.rnv_forge.specs.Named.{IsRisingBy, at}
+use Rattle.rnv_repo.specs.Base.{changed, differs, is_changing, path_of}
+use Rattle.rnv_repo.specs.Files.{MarkedFile, PathChange}
+use Rattle.rnv_repo.specs.Merging.{change_path}
+use Rattle.rnv_repo.specs.Named.{IsRisingBy, at}
 
 -- the files of a base without their marks
 abbrev pub plain : List MarkedFile → List NamedFile

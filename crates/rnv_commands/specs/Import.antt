@@ -4,13 +4,13 @@ use Rattle.rnv_base.specs.Files.{NamedFile}
 use Rattle.rnv_checkout.specs.Base.{folder_of, IsBase, IsWithin}
 use Rattle.rnv_checkout.specs.Refusal.{HasWrong}
 use Rattle.rnv_checkout.specs.declared.error.BaseError.TheVariants.{Limit as base_limit}
-use Rattle.rnv_forge.specs.Files.{MarkedFile, PathChange}
-use Rattle.rnv_forge.specs.Store.{after, known}
-use Rattle.rnv_forge.specs.WellFormed.{AreInOrder}
-use Rattle.rnv_forge.specs.declared.repo.Repo.{Repo}
-use Rattle.rnv_forge.specs.declared.write.Write.{Write}
-use Rattle.rnv_forge.specs.declared.write.Write.TheVariants.{SetBase}
-use Rattle.rnv_store.specs.Writes.{length_of}
+use Rattle.rnv_repo.specs.Files.{MarkedFile, PathChange}
+use Rattle.rnv_repo.specs.Store.{after, known}
+use Rattle.rnv_repo.specs.WellFormed.{AreInOrder}
+use Rattle.rnv_repo.specs.declared.repo.Repo.{Repo}
+use Rattle.rnv_repo.specs.declared.write.Write.{Write}
+use Rattle.rnv_repo.specs.declared.write.Write.TheVariants.{SetBase}
+use Rattle.rnv_forge.specs.Writes.{length_of}
 use Rattle.rnv_commands.specs.Difference.{IsDifference, plain}
 use Rattle.rnv_commands.specs.Printing.{line_end, with_number}
 use Rattle.rnv_commands.specs.declared.error.CommandError.{CommandError}

@@ -4,16 +4,16 @@ use Rattle.std.specs.List.{AllByRecursion}
 use Rattle.rnv_base.specs.Files.{NamedFile}
 use Rattle.rnv_disk.specs.Images.{Image}
 use Rattle.rnv_disk.specs.Stops.{Past}
-use Rattle.rnv_forge.specs.Store.{ArePermitted, after}
-use Rattle.rnv_forge.specs.WellFormed.{IsWellFormed}
-use Rattle.rnv_forge.specs.declared.write.Write.{Write}
+use Rattle.rnv_repo.specs.Store.{ArePermitted, after}
+use Rattle.rnv_repo.specs.WellFormed.{IsWellFormed}
+use Rattle.rnv_repo.specs.declared.write.Write.{Write}
 use Rattle.rnv_journal.specs.Reading.{ReadsAs}
 use Rattle.rnv_journal.specs.Readings.{IsAtRest, IsReadingNow}
 use Rattle.rnv_journal.specs.declared.start.StartError.{StartError}
 use Rattle.rnv_journal.specs.declared.start.StartError.TheVariants.{DiskFault as start_fault, NotAJournal as start_damaged, Memory as start_memory}
-use Rattle.rnv_payload.specs.Spelling.{spelling}
-use Rattle.rnv_store.specs.Start.{IsStoreRefusal, LeavesRefused}
-use Rattle.rnv_store.specs.Writes.{length_of}
+use Rattle.rnv_spelling.specs.Spelling.{spelling}
+use Rattle.rnv_forge.specs.Start.{IsStoreRefusal, LeavesRefused}
+use Rattle.rnv_forge.specs.Writes.{length_of}
 use Rattle.rnv_commands.specs.Import.{IsImport, IsImportRefusal, PrintsImport}
 use Rattle.rnv_commands.specs.Show.{IsShowRefusal, Shows}
 use Rattle.rnv_commands.specs.declared.error.CommandError.{CommandError}

@@ -1,12 +1,12 @@
 -- What `show` prints of a repository.
 use Rattle.std.specs.Prelude.{◌≡◌, ℕ, List, [], ◌∷◌, ◌++◌, length, ◌==◌, Bool, true, false, if◌then◌else◌, Option, None, Some, codes}
 use Rattle.std.specs.List.{ends_with, flat_map}
-use Rattle.rnv_forge.specs.declared.branch.Branch.{Branch}
-use Rattle.rnv_forge.specs.declared.repo.Repo.{Repo}
-use Rattle.rnv_forge.specs.declared.request.Request.{Request}
-use Rattle.rnv_forge.specs.declared.request.RequestState.{RequestState}
-use Rattle.rnv_forge.specs.declared.request.RequestState.TheVariants.{Live, Closed, Autoclosed, Merged}
-use Rattle.rnv_forge.specs.Store.{known}
+use Rattle.rnv_repo.specs.declared.branch.Branch.{Branch}
+use Rattle.rnv_repo.specs.declared.repo.Repo.{Repo}
+use Rattle.rnv_repo.specs.declared.request.Request.{Request}
+use Rattle.rnv_repo.specs.declared.request.RequestState.{RequestState}
+use Rattle.rnv_repo.specs.declared.request.RequestState.TheVariants.{Live, Closed, Autoclosed, Merged}
+use Rattle.rnv_repo.specs.Store.{known}
 use Rattle.rnv_commands.specs.declared.error.CommandError.{CommandError}
 use Rattle.rnv_commands.specs.declared.error.CommandError.TheVariants.{Memory, UnknownRepo, FolderFault, DiskFault, NotAJournal, Limit}
 use Rattle.rnv_commands.specs.Printing.{line_end, with_number, with_text}

@@ -5,12 +5,12 @@ ghost use Rattle.std.specs.Cmp.Lexicographic.{slice_cmp};
 ghost use Rattle.std.specs.Str.{bytes_eq};
 ghost use Rattle.rnv_commands.specs.Difference.{removal, setting, named_path, IsDifference, IsTurn};
 ghost use Rattle.rnv_base.specs.Files.{NamedFile};
-ghost use Rattle.rnv_forge.specs.Base.{path_of};
-ghost use Rattle.rnv_forge.specs.Files.{MarkedFile, PathChange};
-ghost use Rattle.rnv_forge.specs.Named.{IsRisingBy};
+ghost use Rattle.rnv_repo.specs.Base.{path_of};
+ghost use Rattle.rnv_repo.specs.Files.{MarkedFile, PathChange};
+ghost use Rattle.rnv_repo.specs.Named.{IsRisingBy};
 
 use rnv_base::{List, Share, Text};
-use rnv_forge::{EditedFile, FileAt, FileChange};
+use rnv_repo::{EditedFile, FileAt, FileChange};
 use std::alloc::{AllocError, Global};
 use std::convert::AsSlice;
 

@@ -5,16 +5,16 @@ ghost use Rattle.rnv_base.specs.Names.{IsRepositoryName};
 ghost use Rattle.rnv_commands.specs.declared.error.CommandError.TheVariants.{DiskFault as disk_fault, FolderFault as folder_fault};
 ghost use Rattle.rnv_commands.specs.Import.{IsImportRefusal, IsOldOrImport};
 ghost use Rattle.rnv_commands.specs.OnDisk.{LeavesImported, HasImported, IsNotImported, IsNotShown, IsReadingOrImport, IsShownOf, IsStartRefusal, LeavesNoStore};
-ghost use Rattle.rnv_forge.specs.Store.{ArePermitted};
-ghost use Rattle.rnv_forge.specs.WellFormed.{IsWellFormed};
+ghost use Rattle.rnv_repo.specs.Store.{ArePermitted};
+ghost use Rattle.rnv_repo.specs.WellFormed.{IsWellFormed};
 ghost use Rattle.rnv_journal.specs.Readings.{HasReadingsNow, KeepsOne, KeepsReadings, ReadsOnly};
-ghost use Rattle.rnv_store.specs.Forge.{LeavesWrites};
+ghost use Rattle.rnv_forge.specs.Forge.{LeavesWrites};
 
 use crate::{CommandError, import_base, show_repo};
 use rnv_base::{Folder, List, Text};
 use rnv_disk::Disk;
 use rnv_journal::StartError;
-use rnv_store::{Forge, JournalForge, StartRefused};
+use rnv_forge::{Forge, JournalForge, StartRefused};
 use std::alloc::Global;
 
 /// What a command over a disk answers, the text that it prints or why there is none, and the disk as

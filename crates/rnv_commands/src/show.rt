@@ -1,13 +1,13 @@
 ghost use Rattle.std.specs.Prelude.{◌≡◌, ◌++◌, [], IfOk, IfErr, OnOk};
 ghost use Rattle.std.specs.List.{flat_map};
 ghost use Rattle.rnv_commands.specs.Show.{branch_line, due_words, ended, page_part, problem_part, problem_text, repo_line, request_line, show_text, state_words, title_part, IsShowRefusal, Shows};
-ghost use Rattle.rnv_forge.specs.Store.{after};
+ghost use Rattle.rnv_repo.specs.Store.{after};
 
 use crate::CommandError;
 use crate::printing::{add, add_number_after, add_text_after};
 use rnv_base::{List, Text};
-use rnv_forge::{Branch, Repo, Request, RequestState};
-use rnv_store::Forge;
+use rnv_repo::{Branch, Repo, Request, RequestState};
+use rnv_forge::Forge;
 use std::alloc::{AllocError, Global};
 use std::convert::{AsSlice, AsStr};
 

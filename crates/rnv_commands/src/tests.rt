@@ -1,6 +1,6 @@
 use crate::show_text;
 use rnv_base::{Bytes, List, Text};
-use rnv_forge::{Branch, EditedFile, FileAt, Key, Repo, Request, RequestState};
+use rnv_repo::{Branch, EditedFile, FileAt, Key, Repo, Request, RequestState};
 use std::alloc::{AllocError, Global};
 use std::test::Fail;
 

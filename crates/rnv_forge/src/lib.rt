@@ -1,31 +1,17 @@
-//! The repositories of the forge: their records, and the writes that change them.
+//! The store of repositories, as a list of writes over a journal: after a stop at any moment it
+//! holds the writes from before, or those and the next prepared one.
 #![tactic(auto)]
 
-mod applying;
-mod base;
-mod branch;
-mod change;
-mod delivery;
-mod file;
-mod indexed;
-mod lookup;
-mod orderly;
-mod refusal;
-mod repo;
-mod request;
-mod soundness;
+mod forge;
+mod journal_forge;
+mod mem_forge;
+mod start;
+mod store;
+mod stored;
 #[cfg(test)]
 mod tests;
-mod write;
+mod texts;
 
-pub use applying::{ApplyError, apply};
-pub use branch::{Branch, Key};
-pub use delivery::{Delivery, Event};
-pub use file::{EditedFile, FileAt, FileChange};
-pub use indexed::Indexed;
-pub use orderly::{is_orderly, repo_of};
-pub use refusal::Refusal;
-pub use repo::Repo;
-pub use request::{Request, RequestState};
-pub use soundness::stays_sound;
-pub use write::Write;
+pub use forge::{Forge, ForgePrepareError, WriteError};
+pub use journal_forge::{JournalForge, StartRefused};
+pub use mem_forge::MemForge;

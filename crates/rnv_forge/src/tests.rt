@@ -1,218 +1,248 @@
-ghost use Rattle.std.specs.Prelude.{◌<◌, IfOk, IfSome};
-ghost use Rattle.rnv_forge.specs.Store.{IsSound};
+ghost use Rattle.std.specs.Prelude.{◌≡◌, ◌↔◌, All, IfOk, IsTrue, OnOk};
+ghost use Rattle.rnv_repo.specs.WellFormed.{IsOrderly};
 
-use crate::{
-    ApplyError, Branch, EditedFile, FileChange, Key, Refusal, Repo, Write, apply, is_orderly,
-};
+use crate::{Forge, ForgePrepareError, JournalForge, MemForge, WriteError};
 use rnv_base::{Bytes, List, Text};
+use rnv_disk::{Content, FileNo, MemDisk};
+use rnv_repo::{FileChange, Refusal, Repo, Write, is_orderly};
+use rnv_journal::StartError;
 use std::alloc::{AllocError, Global};
-use std::convert::AsSlice;
+use std::convert::{AsSlice, AsStr};
 use std::test::Fail;
 
-// A branch with a live request, one without, and a name that no branch has.
-const X: &str = "renovate/x-1.x";
+// The head of a journal, and the gate of one without entries.
+const EMPTY: &[u8] = b"\x01RNVFORGE\x00\x00\x00\x01\x00";
 
-const Y: &str = "renovate/y-1.x";
-
-const Z: &str = "renovate/z-1.x";
-
-fn text(alloc: Global, text: &str) -> Result<Text, AllocError> {
-    Text::copied(alloc, text)
+// A disk whose file `Zero` holds these bytes, and whose calls with these numbers fail.
+fn disk(alloc: Global, zero: &[u8], failing: &[u64]) -> Result<MemDisk, Fail> {
+    let content = Content::new(Vec::from_slice(alloc, zero)?, Vec::new(alloc));
+    let failing = List::new(Vec::from_slice(alloc, failing)?);
+    Ok(MemDisk::new(alloc, content, failing)?)
 }
 
-fn bytes(alloc: Global, bytes: &[u8]) -> Result<Bytes, AllocError> {
-    Ok(Bytes::new(Vec::from_slice(alloc, bytes)?))
+// A forge over a disk with at most so many bytes.
+fn started(alloc: Global, disk: MemDisk, limit: u64) -> Result<JournalForge<MemDisk>, Fail>
+    ensures { IfOk result ⟦<JournalForge<MemDisk> as Forge>⟧.holds }
+{
+    if limit < 14 || limit > 4_294_967_295 {
+        return Err("no such limit".into());
+    }
+    match JournalForge::start_within(alloc, disk, limit) {
+        Ok(forge) => Ok(forge),
+        Err(_) => Err("not started".into()),
+    }
 }
 
-fn keys(alloc: Global) -> Result<List<Key>, AllocError> {
-    let mut keys = List::empty(alloc);
-    keys.push(Key {
-        file: text(alloc, "package.json")?,
-        package: text(alloc, "x")?,
-        new_value: text(alloc, "1.2.3")?,
-    })?;
-    Ok(keys)
-}
-
-// Sets `package.json`.
-fn set_base(alloc: Global, new: &[u8]) -> Result<Write, AllocError> {
+fn set_base(alloc: Global, repo: &str, new: &[u8]) -> Result<Write, AllocError> {
     let mut changes = List::empty(alloc);
     changes.push(FileChange {
-        path: text(alloc, "package.json")?,
-        bytes: Some(bytes(alloc, new)?),
+        path: Text::copied(alloc, "package.json")?,
+        bytes: Some(Bytes::new(Vec::from_slice(alloc, new)?)),
     })?;
     Ok(Write::SetBase {
-        repo: text(alloc, "a/b")?,
+        repo: Text::copied(alloc, repo)?,
         changes,
     })
 }
 
-fn put_branch(alloc: Global, name: &str) -> Result<Write, AllocError> {
-    let mut files = List::empty(alloc);
-    files.push(EditedFile {
-        path: text(alloc, "package.json")?,
-        bytes: bytes(alloc, b"{}")?,
-    })?;
-    let branch = Branch {
-        name: text(alloc, name)?,
-        revision: 0,
-        updates: keys(alloc)?,
-        files,
-        problem: text(alloc, "")?,
-    };
-    Ok(Write::PutBranch {
-        repo: text(alloc, "a/b")?,
-        branch,
-    })
-}
-
-fn drop_branch(alloc: Global, name: &str) -> Result<Write, AllocError> {
-    Ok(Write::DropBranch {
-        repo: text(alloc, "a/b")?,
-        name: text(alloc, name)?,
-    })
-}
-
-fn open(alloc: Global, number: u32, branch: &str) -> Result<Write, AllocError> {
-    Ok(Write::OpenRequest {
-        repo: text(alloc, "a/b")?,
-        number,
-        branch: text(alloc, branch)?,
-        updates: keys(alloc)?,
-        title: text(alloc, "Update dependency x to 1.2.3")?,
-        body: text(alloc, "x\n")?,
-        labels: List::empty(alloc),
-        made_at: 1_717_409_700,
-    })
-}
-
-fn edit(alloc: Global, number: u32) -> Result<Write, AllocError> {
-    let mut labels = List::empty(alloc);
-    labels.push(text(alloc, "deps")?)?;
-    Ok(Write::EditRequest {
-        repo: text(alloc, "a/b")?,
-        number,
-        updates: keys(alloc)?,
-        title: text(alloc, "Update dependency x to 1.2.4")?,
-        body: text(alloc, "y\n")?,
-        labels,
-    })
-}
-
-fn autoclose(alloc: Global, number: u32) -> Result<Write, AllocError> {
-    Ok(Write::Autoclose {
-        repo: text(alloc, "a/b")?,
-        number,
-    })
-}
-
-fn finish(alloc: Global) -> Result<Write, AllocError> {
+fn finish(alloc: Global, repo: &str) -> Result<Write, AllocError> {
     Ok(Write::Finish {
-        repo: text(alloc, "a/b")?,
-        page: Some(text(alloc, "# page\n")?),
+        repo: Text::copied(alloc, repo)?,
+        page: None,
     })
 }
 
-#[test]
-fn begins_with_its_base(rt: HostRuntime) -> Result<(), Fail> {
-    let write = set_base(rt.alloc(), b"{ }")?;
-    assert!(rt; is_orderly(&write));
-    let Ok(repo) = apply(rt.alloc(), None, &write) else {
-        return Err("refused")?;
-    };
-    assert_eq!(rt; repo.revision, 1);
-    assert_eq!(rt; repo.files.len(), 1);
-    assert!(rt; repo.due);
-    Ok(())
+// The first base of `a/b`, and the end of a run of a repository.
+fn two(alloc: Global, repo: &str) -> Result<List<Write>, AllocError> {
+    let mut list = List::empty(alloc);
+    list.push(set_base(alloc, "a/b", b"{}")?)?;
+    list.push(finish(alloc, repo)?)?;
+    Ok(list)
 }
 
-#[test]
-fn unknown_repositories(rt: HostRuntime) -> Result<(), Fail> {
-    for write in [
-        put_branch(rt.alloc(), X)?,
-        drop_branch(rt.alloc(), X)?,
-        open(rt.alloc(), 1, X)?,
-        edit(rt.alloc(), 1)?,
-        autoclose(rt.alloc(), 1)?,
-        finish(rt.alloc())?,
-    ] {
-        assert!(rt; is_orderly(&write));
-        assert!(rt;
-            matches!(
-                apply(rt.alloc(), None, &write),
-                Err(ApplyError::Refused(Refusal::UnknownRepo))
-            )
-        );
-    }
-    Ok(())
+// A base of a repository.
+fn one(alloc: Global, repo: &str, new: &[u8]) -> Result<List<Write>, AllocError> {
+    let mut list = List::empty(alloc);
+    list.push(set_base(alloc, repo, new)?)?;
+    Ok(list)
 }
 
-// What a write makes of a repository, or of none.
-fn next(alloc: Global, known: Option<Repo>, write: &Write) -> Result<Repo, Fail>
-    requires sound { IfSome known IsSound }
-    requires revision { IfSome known (λ repo. repo.revision < 4294967295) }
-    ensures { IfOk result IsSound }
+fn are_orderly(list: &[Write]) -> bool
+    ensures { IsTrue result ↔ All IsOrderly list.now }
 {
-    if !is_orderly(write) {
-        return Err("not orderly".into());
-    }
-    match apply(alloc, known, write) {
-        Ok(repo) => Ok(repo),
-        Err(_) => Err("refused".into()),
-    }
+    list.iter().all(|write| is_orderly(write))
 }
 
-// The repository behind a sound one and a write.
-fn behind(alloc: Global, repo: Repo, write: &Write) -> Result<Repo, Fail>
-    requires { IsSound repo }
-    ensures { IfOk result IsSound }
+// Prepares orderly writes.
+fn prepare<F: Forge>(
+    forge: &mut F,
+    alloc: Global,
+    list: List<Write>,
+) -> Result<Result<(), ForgePrepareError>, Fail>
+    requires { F.holds forge.old }
+    ensures holds { F.holds forge.new }
+    ensures list { IfOk result (λ answer. OnOk answer (F.prepared forge.new ≡ list)) }
 {
-    if repo.revision == u32::MAX {
-        return Err("no revision is left".into());
+    if are_orderly(list.as_slice()) {
+        Ok(forge.prepare(alloc, list))
+    } else {
+        Err("not orderly".into())
     }
-    next(alloc, Some(repo), write)
 }
 
-// A repository with two branches and a live request on the first.
-fn built(alloc: Global) -> Result<Repo, Fail>
-    ensures { IfOk result IsSound }
+// Prepares a write and does it.
+fn write<F: Forge>(
+    forge: &mut F,
+    alloc: Global,
+    repo: &str,
+    new: &[u8],
+) -> Result<Result<(), WriteError>, Fail>
+    requires { F.holds forge.old }
+    ensures { F.holds forge.new }
 {
-    let base = set_base(alloc, b"{}")?;
-    let repo = next(alloc, None, &base)?;
-    let repo = behind(alloc, repo, &put_branch(alloc, Y)?)?;
-    let repo = behind(alloc, repo, &put_branch(alloc, X)?)?;
-    behind(alloc, repo, &open(alloc, 1, X)?)
+    let list = one(alloc, repo, new)?;
+    if list.len() != 1 {
+        return Err("not one write".into());
+    }
+    match prepare(forge, alloc, list)? {
+        Ok(()) => Ok(forge.write_next()),
+        Err(_) => Err("not prepared".into()),
+    }
 }
 
-// Why a write is refused in that repository.
-fn refusal(alloc: Global, write: &Write) -> Result<Option<Refusal>, Fail> {
-    let repo = built(alloc)?;
-    if repo.revision == u32::MAX || !is_orderly(write) {
-        return Err("not to be applied".into());
-    }
-    match apply(alloc, Some(repo), write) {
-        Ok(_) => Ok(None),
-        Err(ApplyError::Refused(cause)) => Ok(Some(cause)),
-        Err(ApplyError::Memory) => Err("out of memory".into()),
-    }
+// Two writes of `a/b` behind one of another repository, and the answers to them.
+fn write_three<F: Forge>(forge: &mut F, alloc: Global) -> Result<[Result<(), WriteError>; 3], Fail>
+    requires { F.holds forge.old }
+    ensures { F.holds forge.new }
+{
+    let first = write(forge, alloc, "c/d", b"{}")?;
+    let second = write(forge, alloc, "a/b", b"{ }")?;
+    let third = write(forge, alloc, "a/b", b"{}")?;
+    Ok([first, second, third])
+}
+
+// How many repositories there are, and the first of them.
+fn first_repo<F: Forge>(forge: &F, alloc: Global) -> Result<(usize, Repo), Fail>
+    requires { F.holds forge.now }
+{
+    let names = forge.names(alloc)?;
+    let name = names.as_slice().first().ok_or("no name")?;
+    let repo = forge.repo(alloc, name)?.ok_or("no repository")?;
+    Ok((names.len(), repo))
 }
 
 #[test]
-fn refusals_in_their_order(rt: HostRuntime) -> Result<(), Fail> {
+fn writes_stand_after_a_start(rt: HostRuntime) -> Result<(), Fail> {
     let alloc = rt.alloc();
-    let is_live = Refusal::HasLiveRequest { number: 1 };
-    for (write, wanted) in [
-        (set_base(alloc, b"{}")?, Refusal::NoChange),
-        (drop_branch(alloc, Z)?, Refusal::NoBranch),
-        (drop_branch(alloc, X)?, is_live),
-        (open(alloc, 1, Z)?, Refusal::NoBranch),
-        (open(alloc, 1, X)?, is_live),
-        (open(alloc, 1, Y)?, Refusal::NumberTaken { number: 1 }),
-        (open(alloc, 3, Y)?, Refusal::NumberTaken { number: 3 }),
-        (edit(alloc, 2)?, Refusal::NotLive { number: 2 }),
-        (autoclose(alloc, 2)?, Refusal::NotLive { number: 2 }),
-    ] {
-        assert_eq!(rt; refusal(alloc, &write)?, Some(wanted));
+    let mut forge = started(alloc, disk(alloc, b"", &[])?, 1000)?;
+    assert_eq!(rt; write_three(&mut forge, alloc)?, [Ok(()), Ok(()), Ok(())]);
+    // Without entries 14, and 5 more and the payload for each: 35, 36 and 35 bytes.
+    assert_eq!(rt; (forge.count(), forge.length()), (3, 135));
+    let disk = forge.into_disk();
+    let payload =
+        b"\x01\x00\x00\x00\x03a/b\x00\x00\x00\x01\x00\x00\x00\x0cpackage.json\x01\x00\x00\x00\x02{}\x00";
+    assert!(rt; disk.part(FileNo::Zero).ends_with(payload));
+    let Ok(forge) = JournalForge::start(alloc, disk) else {
+        return Err("not started again".into());
+    };
+    let (count, repo) = first_repo(&forge, alloc)?;
+    assert_eq!(rt; (count, repo.name.as_str(), repo.revision), (2, "a/b", 2));
+    Ok(())
+}
+
+#[test]
+fn writes_stand_in_memory(rt: HostRuntime) -> Result<(), Fail> {
+    let alloc = rt.alloc();
+    let mut forge = MemForge::new(alloc, 1000, List::empty(alloc));
+    assert_eq!(rt; write_three(&mut forge, alloc)?, [Ok(()), Ok(()), Ok(())]);
+    assert_eq!(rt; (forge.count(), forge.length(alloc)?), (3, 135));
+    let (count, repo) = first_repo(&forge, alloc)?;
+    assert_eq!(rt; (count, repo.name.as_str(), repo.revision), (2, "a/b", 2));
+    Ok(())
+}
+
+// What a start answers to these bytes.
+fn refused(alloc: Global, zero: &[u8], failing: &[u64]) -> Result<Option<StartError>, Fail> {
+    match JournalForge::start(alloc, disk(alloc, zero, failing)?) {
+        Ok(_) => Ok(None),
+        Err(refused) => Ok(Some(refused.error)),
     }
+}
+
+#[test]
+fn starts_that_are_refused(rt: HostRuntime) -> Result<(), Fail> {
+    let alloc = rt.alloc();
+    // A whole entry that is no write.
+    let entry = b"\x01RNVFORGE\x00\x00\x00\x01\x01\x00\x00\x00\x01M\x00";
+    let no_write = Some(StartError::NotAJournal { offset: 13 });
+    assert_eq!(rt; refused(alloc, entry, &[])?, no_write);
+    let no_head = Some(StartError::NotAJournal { offset: 0 });
+    assert_eq!(rt; refused(alloc, b"another file", &[])?, no_head);
+    assert_eq!(rt; refused(alloc, EMPTY, &[0])?, Some(StartError::DiskFault));
+    Ok(())
+}
+
+// The answers to two lists of writes.
+fn prepare_both<F: Forge>(
+    forge: &mut F,
+    alloc: Global,
+) -> Result<[Result<(), ForgePrepareError>; 2], Fail>
+    requires { F.holds forge.old }
+{
+    let first = prepare(forge, alloc, two(alloc, "c/d")?)?;
+    let second = prepare(forge, alloc, two(alloc, "a/b")?)?;
+    Ok([first, second])
+}
+
+// Why both are refused: one write is of no known repository, and for the others 60 bytes are too few.
+fn refusals() -> [Result<(), ForgePrepareError>; 2] {
+    let unknown = ForgePrepareError::Refused {
+        index: 1,
+        cause: Refusal::UnknownRepo,
+    };
+    // Without entries 14, and 5 more and the payload for each: 35 and 9 bytes.
+    let full = ForgePrepareError::Full {
+        length: 68,
+        limit: 60,
+    };
+    [Err(unknown), Err(full)]
+}
+
+#[test]
+fn writes_that_are_refused(rt: HostRuntime) -> Result<(), Fail> {
+    let alloc = rt.alloc();
+    let mut forge = started(alloc, disk(alloc, EMPTY, &[])?, 60)?;
+    assert_eq!(rt; prepare_both(&mut forge, alloc)?, refusals());
+    let mut forge = MemForge::new(alloc, 60, List::empty(alloc));
+    assert_eq!(rt; prepare_both(&mut forge, alloc)?, refusals());
+    Ok(())
+}
+
+// The answer to a write, and to the writes that are to come then.
+fn write_and_prepare<F: Forge>(
+    forge: &mut F,
+    alloc: Global,
+) -> Result<(Result<(), WriteError>, Result<(), ForgePrepareError>), Fail>
+    requires { F.holds forge.old }
+{
+    let written = write(forge, alloc, "a/b", b"{}")?;
+    let prepared = prepare(forge, alloc, one(alloc, "a/b", b"{}")?)?;
+    Ok((written, prepared))
+}
+
+// The answers where the first write meets a fault of the disk.
+fn closed() -> (Result<(), WriteError>, Result<(), ForgePrepareError>) {
+    (Err(WriteError::DiskFault), Err(ForgePrepareError::Closed))
+}
+
+#[test]
+fn a_fault_closes_the_forge(rt: HostRuntime) -> Result<(), Fail> {
+    let alloc = rt.alloc();
+    // A start of a made journal makes two calls.
+    let mut forge = started(alloc, disk(alloc, EMPTY, &[2])?, 1000)?;
+    assert_eq!(rt; write_and_prepare(&mut forge, alloc)?, closed());
+    let failing = List::new(Vec::from_slice(alloc, &[0])?);
+    let mut forge = MemForge::new(alloc, 1000, failing);
+    assert_eq!(rt; write_and_prepare(&mut forge, alloc)?, closed());
     Ok(())
 }

@@ -2,10 +2,10 @@
 use Rattle.std.proofs.Common.{◌≡◌, ℕ, Bool, true, false, not, ◌&&◌, ◌||◌, List, [], Some, None, refl, sym, ◌∙◌, ap, subst, ◌⊎◌, inl, inr}
 use Rattle.std.specs.Prelude.{is_none, is_some}
 use Rattle.std.proofs.lemmas.Bool.{and_from}
-use Rattle.rnv_forge.specs.declared.branch.Branch.{Branch}
-use Rattle.rnv_forge.specs.declared.repo.Repo.{Repo}
-use Rattle.rnv_forge.specs.declared.request.Request.{Request}
-use Rattle.rnv_forge.specs.declared.write.Write.{Write}
+use Rattle.rnv_repo.specs.declared.branch.Branch.{Branch}
+use Rattle.rnv_repo.specs.declared.repo.Repo.{Repo}
+use Rattle.rnv_repo.specs.declared.request.Request.{Request}
+use Rattle.rnv_repo.specs.declared.write.Write.{Write}
 use Rattle.rnv_outcome.proofs.Found.{at_name}
 use Rattle.rnv_outcome.proofs.Kept.{KeepsName, order_changed, wanted_after}
 use Rattle.rnv_outcome.proofs.Made.{Uses}

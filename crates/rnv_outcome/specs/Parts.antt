@@ -1,8 +1,8 @@
 -- What one write of a run leaves of how the items are judged.
 use Rattle.std.specs.Prelude.{◌≡◌, ℕ, ◌+◌, Bool, true, false, not, ◌&&◌, if◌then◌else◌, List, [], ◌∷◌, ◌++◌, length, Option, None, Some, is_none}
-use Rattle.rnv_forge.specs.declared.repo.Repo.{Repo}
-use Rattle.rnv_forge.specs.declared.write.Write.{Write}
-use Rattle.rnv_forge.specs.declared.write.Write.TheVariants.{SetBase, PutBranch, DropBranch, OpenRequest, EditRequest, Autoclose, Finish}
+use Rattle.rnv_repo.specs.declared.repo.Repo.{Repo}
+use Rattle.rnv_repo.specs.declared.write.Write.{Write}
+use Rattle.rnv_repo.specs.declared.write.Write.TheVariants.{SetBase, PutBranch, DropBranch, OpenRequest, EditRequest, Autoclose, Finish}
 use Rattle.rnv_outcome.specs.declared.item.Item.{Item}
 use Rattle.rnv_outcome.specs.Given.{Given}
 use Rattle.rnv_outcome.specs.Limits.{concurrent_used, eligible, hourly_used, is_chosen}

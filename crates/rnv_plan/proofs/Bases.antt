@@ -9,9 +9,9 @@ use Rattle.std.proofs.lemmas.List.Elements.{All-map}
 use Rattle.std.proofs.lemmas.List.{append_cancel_left}
 use Rattle.std.proofs.lemmas.Option.{same_Some}
 use Rattle.rnv_base.specs.Files.{NamedFile, listed_of}
-use Rattle.rnv_forge.specs.Files.{MarkedFile}
-use Rattle.rnv_forge.specs.Named.{IsRisingBy}
-use Rattle.rnv_forge.specs.WellFormed.{AreInOrder}
+use Rattle.rnv_repo.specs.Files.{MarkedFile}
+use Rattle.rnv_repo.specs.Named.{IsRisingBy}
+use Rattle.rnv_repo.specs.WellFormed.{AreInOrder}
 use Rattle.rnv_base.specs.Names.{IsPath}
 use Rattle.rnv_checkout.specs.Base.{folder_of, kept_of, size_of, IsBase, IsOutcome, IsWithin}
 use Rattle.rnv_checkout.specs.Refusal.{HasWrong, IsAbove}

@@ -7,7 +7,7 @@ use Rattle.std.proofs.lemmas.Option.{same_Some}
 use Rattle.std.proofs.lemmas.Str.{IsUtf8-from_is_utf8, is_utf8-from_IsUtf8}
 use Rattle.rnv_base.specs.declared.kinds.ManagerKind.{ManagerKind}
 use Rattle.rnv_base.specs.declared.kinds.ManagerKind.TheVariants.{Cargo, Npm, Dockerfile, Regex}
-use Rattle.rnv_forge.specs.Files.{MarkedFile}
+use Rattle.rnv_repo.specs.Files.{MarkedFile}
 use Rattle.rnv_manager.specs.declared.found.Found.{Found}
 use Rattle.rnv_manager.specs.Finds.{Find, view, views}
 use Rattle.rnv_manager.specs.Marks.{Mark, finds_from}

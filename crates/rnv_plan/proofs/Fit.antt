@@ -4,8 +4,8 @@ use Rattle.std.specs.Prelude.{filter}
 use Rattle.std.specs.List.{All, Contains}
 use Rattle.std.proofs.lemmas.List.Elements.{All-nil, All-map, All-same, All-filter, All-contains_itself}
 use Rattle.rnv_base.specs.declared.kinds.ManagerKind.{ManagerKind}
-use Rattle.rnv_forge.specs.Files.{MarkedFile}
-use Rattle.rnv_forge.specs.Named.{IsRisingBy}
+use Rattle.rnv_repo.specs.Files.{MarkedFile}
+use Rattle.rnv_repo.specs.Named.{IsRisingBy}
 use Rattle.rnv_npm.specs.Exact.{Exact, exact_of}
 use Rattle.rnv_release.specs.declared.release.Release.{Release}
 use Rattle.rnv_pick.specs.declared.dep.Dep.{Dep}

@@ -10,7 +10,7 @@ use Rattle.std.proofs.lemmas.Cmp.{nat_list_cmp_total}
 use Rattle.std.proofs.lemmas.List.{take-append-drop}
 use Rattle.std.proofs.lemmas.List.Elements.{All-cons, All-append, All-weaker, All-from_recursion}
 use Rattle.std.proofs.lemmas.Map.Keys.{sorted_head, sorted_tail}
-use Rattle.rnv_forge.specs.Named.{IsRisingBy}
+use Rattle.rnv_repo.specs.Named.{IsRisingBy}
 
 pub not_both : (n name : List ℕ) → slice_cmp nat_cmp n name ≡ Less → slice_cmp nat_cmp name n ≡ Less → ⊥
 not_both n name below above =

@@ -12,8 +12,8 @@ use Rattle.std.proofs.lemmas.Option.{same_Some}
 use Rattle.std.proofs.lemmas.Slice.Zip.{all_zipped_more}
 use Rattle.rnv_base.specs.declared.kinds.ManagerKind.{ManagerKind}
 use Rattle.rnv_base.specs.declared.kinds.ManagerKind.TheVariants.{Npm}
-use Rattle.rnv_forge.specs.Files.{MarkedFile}
-use Rattle.rnv_forge.specs.Named.{IsRisingBy}
+use Rattle.rnv_repo.specs.Files.{MarkedFile}
+use Rattle.rnv_repo.specs.Named.{IsRisingBy}
 use Rattle.rnv_manager.specs.declared.found.Found.{Found}
 use Rattle.rnv_manager.specs.Finds.{view, views}
 use Rattle.rnv_pick.specs.declared.dep.Dep.{Dep}

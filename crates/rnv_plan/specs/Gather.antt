@@ -2,8 +2,8 @@
 use Rattle.std.specs.Prelude.{◌≡◌, ◌≤◌, ℕ, List, length, map, Bool, true, false, Option, Some, None}
 use Rattle.std.specs.List.{All, AllZip, Contains}
 use Rattle.rnv_base.specs.Files.{NamedFile}
-use Rattle.rnv_forge.specs.Files.{MarkedFile}
-use Rattle.rnv_forge.specs.Named.{IsRisingBy}
+use Rattle.rnv_repo.specs.Files.{MarkedFile}
+use Rattle.rnv_repo.specs.Named.{IsRisingBy}
 use Rattle.rnv_release.specs.declared.release.Release.{Release}
 use Rattle.rnv_release.specs.Npm.{npm_path, npm_reading}
 use Rattle.rnv_release.specs.Index.{Index, absent, listed, too_long, bad, too_many, index_of}

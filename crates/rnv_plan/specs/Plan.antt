@@ -1,7 +1,7 @@
 -- What an operator's folder gives for a repository.
 use Rattle.std.specs.Prelude.{◌≡◌, ◌<◌, ◌≤◌, ℕ, List, length, map, codes}
 use Rattle.rnv_base.specs.Files.{NamedFile}
-use Rattle.rnv_forge.specs.Files.{MarkedFile}
+use Rattle.rnv_repo.specs.Files.{MarkedFile}
 use Rattle.rnv_checkout.specs.Base.{folder_of, IsBase, IsWithin}
 use Rattle.rnv_checkout.specs.Refusal.{HasWrong}
 use Rattle.rnv_checkout.specs.declared.error.BaseError.TheVariants as of_base

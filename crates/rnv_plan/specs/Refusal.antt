@@ -5,7 +5,7 @@ use Rattle.std.specs.Ordering.{nat_cmp}
 use Rattle.std.specs.Cmp.Lexicographic.{slice_cmp}
 use Rattle.std.specs.declared.cmp.Ordering.TheVariants.{Less}
 use Rattle.rnv_base.specs.Files.{NamedFile}
-use Rattle.rnv_forge.specs.Files.{MarkedFile}
+use Rattle.rnv_repo.specs.Files.{MarkedFile}
 use Rattle.rnv_release.specs.Npm.{npm_path}
 use Rattle.rnv_release.specs.Index.{Index, absent, listed, too_long, bad, too_many}
 use Rattle.rnv_pick.specs.declared.dep.Dep.{Dep}

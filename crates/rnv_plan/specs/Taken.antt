@@ -5,7 +5,7 @@ use Rattle.std.specs.Str.{IsUtf8}
 use Rattle.std.specs.Cmp.Lexicographic.{pointwise}
 use Rattle.rnv_base.specs.declared.kinds.ManagerKind.{ManagerKind}
 use Rattle.rnv_base.specs.declared.kinds.ManagerKind.TheVariants.{Cargo, Npm, Dockerfile, Regex}
-use Rattle.rnv_forge.specs.Files.{MarkedFile}
+use Rattle.rnv_repo.specs.Files.{MarkedFile}
 use Rattle.rnv_manager.specs.Finds.{Find}
 use Rattle.rnv_manager.specs.Marks.{Mark, finds_from}
 use Rattle.rnv_npm.specs.Exact.{exact_of}

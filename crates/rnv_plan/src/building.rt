@@ -1,7 +1,7 @@
 ghost use Rattle.std.specs.Prelude.{◌≡◌, ◌≢◌, ℕ, List as Items, codes, true, false, All, IfOk, IfErr, OnOk};
 ghost use Rattle.std.specs.List.{list_all};
 ghost use Rattle.rnv_base.specs.Files.{NamedFile};
-ghost use Rattle.rnv_forge.specs.Named.{IsRisingBy};
+ghost use Rattle.rnv_repo.specs.Named.{IsRisingBy};
 ghost use Rattle.rnv_plan.specs.Taken.{is_configured, is_exact, is_built};
 ghost use Rattle.rnv_plan.specs.Gather.{AreBuilt};
 ghost use Rattle.rnv_plan.specs.Refusal.{IfTold, IsFirstUnbuilt, IsRefusal};
@@ -10,7 +10,7 @@ use crate::RunError;
 use crate::error::not_built;
 use crate::taken::{TakenFile, taken};
 use rnv_base::{List, ManagerKind};
-use rnv_forge::FileAt;
+use rnv_repo::FileAt;
 use rnv_npm::NpmVersioning;
 use rnv_pick::Dep;
 use std::alloc::{AllocError, Global};

@@ -1,8 +1,8 @@
 ghost use Rattle.std.specs.Prelude.{◌≡◌, ◌≢◌, ℕ, List as Items, Option, map, IfOk, IfErr, OnOk};
 ghost use Rattle.std.specs.List.{All};
 ghost use Rattle.rnv_base.specs.Causes.{FaultsBy};
-ghost use Rattle.rnv_forge.specs.Named.{IsRisingBy};
-ghost use Rattle.rnv_forge.specs.WellFormed.{AreInOrder};
+ghost use Rattle.rnv_repo.specs.Named.{IsRisingBy};
+ghost use Rattle.rnv_repo.specs.WellFormed.{AreInOrder};
 ghost use Rattle.rnv_release.specs.declared.release.Release.{Release as OfRelease};
 ghost use Rattle.rnv_plan.specs.declared.error.RunError.{RunError as Error};
 ghost use Rattle.rnv_plan.specs.declared.taken.TakenFile.{TakenFile as OfTaken};
@@ -18,7 +18,7 @@ use crate::taken::TakenFile;
 use crate::{Inputs, PickedFile, Planned, RunError};
 use rnv_base::{Folder, List, Text};
 use rnv_checkout::{BaseError, FolderBase, read_base};
-use rnv_forge::{EditedFile, FileAt};
+use rnv_repo::{EditedFile, FileAt};
 use std::alloc::{AllocError, Global};
 use std::convert::AsSlice;
 

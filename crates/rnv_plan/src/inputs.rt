@@ -1,5 +1,5 @@
 use rnv_base::{List, ManagerKind, Text};
-use rnv_forge::FileAt;
+use rnv_repo::FileAt;
 use rnv_pick::{Dep, Update};
 
 /// The updates of a dependency, in rising order of version.

@@ -2,12 +2,12 @@
 use Rattle.std.proofs.Common.{◌≡◌, ◌⊎◌, ◌≤◌, inl, inr, ℕ, List, map, sym, ap, subst, ◌∙◌, arith}
 use Rattle.rnv_disk.specs.Images.{Image}
 use Rattle.rnv_disk.specs.Stops.{LeavesOnly, Past}
-use Rattle.rnv_forge.specs.declared.write.Write.{Write}
+use Rattle.rnv_repo.specs.declared.write.Write.{Write}
 use Rattle.rnv_journal.proofs.Uses.{each_weaker}
 use Rattle.rnv_journal.specs.Reading.{EachReading}
 use Rattle.rnv_journal.specs.Readings.{HasReadingsNow, IsReadingNow, KeepsReadings, ReadsOnly}
-use Rattle.rnv_payload.specs.Spelling.{spelling}
-use Rattle.rnv_store.specs.Forge.{LeavesWrites, SpellSome}
+use Rattle.rnv_spelling.specs.Spelling.{spelling}
+use Rattle.rnv_forge.specs.Forge.{LeavesWrites, SpellSome}
 use Rattle.rnv_commands.proofs.Stops.{leaves_at}
 use Rattle.rnv_run.specs.Begun.{BeginsOrStays, LeavesOf, LeftOf}
 use Rattle.rnv_run.specs.Begun.LeftOf.{begun, kept}

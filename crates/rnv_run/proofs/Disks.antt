@@ -7,10 +7,10 @@ use Rattle.rnv_commands.specs.OnDisk.{IsStored}
 use Rattle.rnv_commands.proofs.Stops.{keeps_still}
 use Rattle.rnv_disk.specs.Images.{Image}
 use Rattle.rnv_disk.specs.Stops.{Past}
-use Rattle.rnv_forge.specs.Store.{after, known}
-use Rattle.rnv_forge.specs.WellFormed.{IsWellFormed}
-use Rattle.rnv_forge.specs.declared.repo.Repo.{Repo}
-use Rattle.rnv_forge.specs.declared.write.Write.{Write}
+use Rattle.rnv_repo.specs.Store.{after, known}
+use Rattle.rnv_repo.specs.WellFormed.{IsWellFormed}
+use Rattle.rnv_repo.specs.declared.repo.Repo.{Repo}
+use Rattle.rnv_repo.specs.declared.write.Write.{Write}
 use Rattle.rnv_journal.specs.Readings.{IsAtRest, IsReadingNow, KeepsReadings, ReadsOnly}
 use Rattle.rnv_journal.specs.declared.start.StartError.{StartError}
 use Rattle.rnv_journal.specs.declared.start.StartError.TheVariants.{DiskFault as start_fault, NotAJournal as start_damaged, Memory as start_memory}
@@ -18,15 +18,15 @@ use Rattle.rnv_journal.proofs.Uses.{reads_then, reads_weaker}
 use Rattle.rnv_desired.specs.Givens.{IsGiven}
 use Rattle.rnv_outcome.specs.Given.{Given}
 use Rattle.rnv_outcome.specs.Steps.{steps}
-use Rattle.rnv_payload.specs.Spelling.{spelling}
-use Rattle.rnv_payload.proofs.Formats.{some_is}
-use Rattle.rnv_payload.proofs.WriteFormats.{whole_again}
+use Rattle.rnv_spelling.specs.Spelling.{spelling}
+use Rattle.rnv_spelling.proofs.Formats.{some_is}
+use Rattle.rnv_spelling.proofs.WriteFormats.{whole_again}
 use Rattle.rnv_plan.specs.declared.error.RunError.{RunError}
 use Rattle.rnv_plan.specs.declared.error.RunError.TheVariants.{Memory, FolderFault, DiskFault, UnknownRepo, NotBuilt, Limit, IndexRefused}
-use Rattle.rnv_store.specs.Forge.{LeavesWrites}
-use Rattle.rnv_store.specs.Writes.{length_of}
-use Rattle.rnv_store.specs.Start.{IsStoreRefusal, LeavesRefused}
-use Rattle.rnv_store.proofs.Uses.{leaves_weaker}
+use Rattle.rnv_forge.specs.Forge.{LeavesWrites}
+use Rattle.rnv_forge.specs.Writes.{length_of}
+use Rattle.rnv_forge.specs.Start.{IsStoreRefusal, LeavesRefused}
+use Rattle.rnv_forge.proofs.Uses.{leaves_weaker}
 use Rattle.rnv_run.specs.declared.on_disk.RunRefusal.{RunRefusal}
 use Rattle.rnv_run.specs.declared.on_disk.RunRefusal.TheVariants.{Ended, NotAJournal}
 use Rattle.rnv_run.specs.Begun.{BeginsOrStays}

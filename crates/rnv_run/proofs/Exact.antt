@@ -9,21 +9,21 @@ use Rattle.rnv_desired.proofs.Apart.{one_given}
 use Rattle.rnv_desired.proofs.Made.{not_many}
 use Rattle.rnv_disk.specs.Images.{Image}
 use Rattle.rnv_disk.specs.Stops.{Past}
-use Rattle.rnv_forge.specs.Files.{MarkedFile}
-use Rattle.rnv_forge.specs.Store.{ArePermitted, after, applied, known}
-use Rattle.rnv_forge.specs.WellFormed.{IsWellFormed}
-use Rattle.rnv_forge.specs.declared.repo.Repo.{Repo}
-use Rattle.rnv_forge.specs.declared.write.Write.{Write}
+use Rattle.rnv_repo.specs.Files.{MarkedFile}
+use Rattle.rnv_repo.specs.Store.{ArePermitted, after, applied, known}
+use Rattle.rnv_repo.specs.WellFormed.{IsWellFormed}
+use Rattle.rnv_repo.specs.declared.repo.Repo.{Repo}
+use Rattle.rnv_repo.specs.declared.write.Write.{Write}
 use Rattle.rnv_journal.proofs.Uses.{one_read, wrong_reads}
 use Rattle.rnv_outcome.specs.Given.{Given}
 use Rattle.rnv_outcome.specs.Steps.{steps}
-use Rattle.rnv_payload.specs.Spelling.{spelling}
+use Rattle.rnv_spelling.specs.Spelling.{spelling}
 use Rattle.rnv_plan.specs.Plan.{HaveManyItems}
 use Rattle.rnv_plan.specs.declared.error.RunError.{RunError}
 use Rattle.rnv_plan.specs.declared.inputs.PickedFile.{PickedFile}
 use Rattle.rnv_plan.proofs.Bases.{picked-of}
 use Rattle.rnv_plan.proofs.Refused.{gathered-fine, refusal-one}
-use Rattle.rnv_store.specs.Writes.{SpellsNone, length_of}
+use Rattle.rnv_forge.specs.Writes.{SpellsNone, length_of}
 use Rattle.rnv_run.specs.OnDisk.{HasRun, IsRefusedIn}
 use Rattle.rnv_run.specs.Repository.{IsBaseRefusal, IsRepoRefusal, IsRun, many_items, no_room, not_gathered, of_base, unknown}
 use Rattle.rnv_run.proofs.Disks.{same_write, same_writes}

@@ -4,14 +4,14 @@ use Rattle.std.specs.List.{AllByRecursion}
 use Rattle.rnv_base.specs.Files.{NamedFile}
 use Rattle.rnv_desired.specs.Givens.{IsGiven}
 use Rattle.rnv_disk.specs.Stops.{Past}
-use Rattle.rnv_forge.specs.Store.{ArePermitted, after, known}
-use Rattle.rnv_forge.specs.WellFormed.{IsOrderly, IsWellFormed}
-use Rattle.rnv_forge.specs.declared.repo.Repo.{Repo}
-use Rattle.rnv_forge.specs.declared.write.Write.{Write}
+use Rattle.rnv_repo.specs.Store.{ArePermitted, after, known}
+use Rattle.rnv_repo.specs.WellFormed.{IsOrderly, IsWellFormed}
+use Rattle.rnv_repo.specs.declared.repo.Repo.{Repo}
+use Rattle.rnv_repo.specs.declared.write.Write.{Write}
 use Rattle.rnv_outcome.specs.Given.{Given}
 use Rattle.rnv_outcome.specs.Steps.{steps}
 use Rattle.rnv_plan.specs.declared.error.RunError.{RunError}
-use Rattle.rnv_store.specs.Forge.{LeavesWrites}
+use Rattle.rnv_forge.specs.Forge.{LeavesWrites}
 use Rattle.rnv_run.specs.declared.planning.PlannedRun.{PlannedRun}
 use Rattle.rnv_run.specs.declared.planning.Summary.{Summary}
 use Rattle.rnv_run.specs.Begun.{BeginsOrStays}

@@ -8,11 +8,11 @@ use Rattle.rnv_desired.specs.Desired.{AreDesired}
 use Rattle.rnv_desired.specs.Givens.{IsGiven}
 use Rattle.rnv_desired.proofs.Apart.{given_fit, one_given}
 use Rattle.rnv_disk.specs.Stops.{Past}
-use Rattle.rnv_forge.specs.Files.{MarkedFile}
-use Rattle.rnv_forge.specs.Store.{ArePermitted, IsSound, IsSoundStore, after, known}
-use Rattle.rnv_forge.specs.WellFormed.{AreInOrder, IsWellFormed}
-use Rattle.rnv_forge.specs.declared.repo.Repo.{Repo}
-use Rattle.rnv_forge.specs.declared.write.Write.{Write}
+use Rattle.rnv_repo.specs.Files.{MarkedFile}
+use Rattle.rnv_repo.specs.Store.{ArePermitted, IsSound, IsSoundStore, after, known}
+use Rattle.rnv_repo.specs.WellFormed.{AreInOrder, IsWellFormed}
+use Rattle.rnv_repo.specs.declared.repo.Repo.{Repo}
+use Rattle.rnv_repo.specs.declared.write.Write.{Write}
 use Rattle.rnv_outcome.proofs.Named.{all_at}
 use Rattle.rnv_outcome.proofs.OneWrite.{runs, whole_run}
 use Rattle.rnv_outcome.specs.declared.item.Item.{Item}
@@ -28,8 +28,8 @@ use Rattle.rnv_plan.specs.Gather.{AreFit, IsGathered}
 use Rattle.rnv_plan.specs.Refusal.{IfTold}
 use Rattle.rnv_steps.specs.declared.terms.Terms.{Terms}
 use Rattle.rnv_steps.specs.Told.{HaveBranches, IsTold}
-use Rattle.rnv_store.specs.Forge.{LeavesWrites}
-use Rattle.rnv_store.proofs.Uses.{leaves_weaker}
+use Rattle.rnv_forge.specs.Forge.{LeavesWrites}
+use Rattle.rnv_forge.proofs.Uses.{leaves_weaker}
 use Rattle.rnv_run.specs.Front.{IsFront}
 use Rattle.rnv_run.specs.Repository.{IfCaused, IsOfRepo, IsRepoRefusal, IsRun, IsRunDone, IsThere, IsUnwanted, no_items, no_repo, no_room, of_base, unknown}
 use Rattle.rnv_run.specs.Run.{IsRunRefusal, IsStoppedRun, IsUnknown, LeavesOutcome}

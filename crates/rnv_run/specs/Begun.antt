@@ -4,11 +4,11 @@
 use Rattle.std.specs.Prelude.{◌≡◌, ◌⊎◌, ℕ, List, map}
 use Rattle.rnv_disk.specs.Images.{Image}
 use Rattle.rnv_disk.specs.Stops.{LeavesOnly, Past}
-use Rattle.rnv_forge.specs.declared.write.Write.{Write}
+use Rattle.rnv_repo.specs.declared.write.Write.{Write}
 use Rattle.rnv_journal.specs.Reading.{EachReading}
 use Rattle.rnv_journal.specs.Readings.{HasReadingsNow, IsReadingNow}
-use Rattle.rnv_payload.specs.Spelling.{spelling}
-use Rattle.rnv_store.specs.Forge.{LeavesWrites}
+use Rattle.rnv_spelling.specs.Spelling.{spelling}
+use Rattle.rnv_forge.specs.Forge.{LeavesWrites}
 use Rattle.rnv_run.specs.Front.{IsFront, SpellsFront}
 
 -- Over a forge: whatever a stop leaves spells the writes from before alone, or one run was begun, and whatever a stop leaves spells

@@ -2,8 +2,8 @@
 use Rattle.std.specs.Prelude.{◌≡◌, ℕ, List, [], ◌++◌, Some}
 use Rattle.rnv_base.specs.Files.{NamedFile}
 use Rattle.rnv_desired.specs.Givens.{IsGiven}
-use Rattle.rnv_forge.specs.Store.{after, known}
-use Rattle.rnv_forge.specs.declared.write.Write.{Write}
+use Rattle.rnv_repo.specs.Store.{after, known}
+use Rattle.rnv_repo.specs.declared.write.Write.{Write}
 use Rattle.rnv_outcome.specs.Given.{Given}
 use Rattle.rnv_outcome.specs.Law.{IsFit}
 use Rattle.rnv_outcome.specs.Steps.{steps}

@@ -3,10 +3,10 @@ use Rattle.std.specs.Prelude.{◌≡◌, ◌<◌, ℕ, List, [], ◌++◌, Some,
 use Rattle.rnv_base.specs.Files.{NamedFile}
 use Rattle.rnv_desired.specs.Givens.{IsGiven}
 use Rattle.rnv_desired.specs.Kept.{kept_updates}
-use Rattle.rnv_forge.specs.Files.{MarkedFile}
-use Rattle.rnv_forge.specs.Store.{after, known}
-use Rattle.rnv_forge.specs.declared.repo.Repo.{Repo}
-use Rattle.rnv_forge.specs.declared.write.Write.{Write}
+use Rattle.rnv_repo.specs.Files.{MarkedFile}
+use Rattle.rnv_repo.specs.Store.{after, known}
+use Rattle.rnv_repo.specs.declared.repo.Repo.{Repo}
+use Rattle.rnv_repo.specs.declared.write.Write.{Write}
 use Rattle.rnv_outcome.specs.Given.{Given}
 use Rattle.rnv_outcome.specs.Steps.{steps}
 use Rattle.rnv_plan.specs.declared.inputs.PickedFile.{PickedFile}
@@ -15,7 +15,7 @@ use Rattle.rnv_plan.specs.declared.error.RunError.TheVariants.{Memory, FolderFau
 use Rattle.rnv_plan.specs.Gather.{IsGathered}
 use Rattle.rnv_plan.specs.Plan.{HaveManyItems}
 use Rattle.rnv_plan.specs.Refusal.{IsRefusal}
-use Rattle.rnv_store.specs.Writes.{length_of}
+use Rattle.rnv_forge.specs.Writes.{length_of}
 use Rattle.rnv_run.specs.Run.{LeavesOutcome}
 use Rattle.rnv_run.specs.Text.{PrintsRun}
 

@@ -2,14 +2,14 @@ ghost use Rattle.std.specs.Prelude.{◌≡◌, ◌≢◌, ◌++◌, List as Item
 ghost use Rattle.std.specs.List.{AllByRecursion};
 ghost use Rattle.rnv_base.specs.Causes.{FaultsBy};
 ghost use Rattle.rnv_base.specs.Moment.{IsMoment};
-ghost use Rattle.rnv_forge.specs.Store.{ArePermitted};
-ghost use Rattle.rnv_forge.specs.WellFormed.{IsWellFormed};
-ghost use Rattle.rnv_forge.specs.declared.repo.Repo.{Repo as Record};
-ghost use Rattle.rnv_forge.specs.declared.write.Write.{Write as Change};
+ghost use Rattle.rnv_repo.specs.Store.{ArePermitted};
+ghost use Rattle.rnv_repo.specs.WellFormed.{IsWellFormed};
+ghost use Rattle.rnv_repo.specs.declared.repo.Repo.{Repo as Record};
+ghost use Rattle.rnv_repo.specs.declared.write.Write.{Write as Change};
 ghost use Rattle.rnv_desired.specs.Givens.{IsGiven};
 ghost use Rattle.rnv_outcome.specs.Given.{Given};
 ghost use Rattle.rnv_journal.specs.Readings.{KeepsOne};
-ghost use Rattle.rnv_store.specs.Forge.{LeavesWrites};
+ghost use Rattle.rnv_forge.specs.Forge.{LeavesWrites};
 ghost use Rattle.rnv_run.specs.declared.on_disk.RunRefusal.TheVariants.{Ended as ended_by};
 ghost use Rattle.rnv_run.specs.Front.{IsFront};
 ghost use Rattle.rnv_run.specs.OnDisk.{IsFinished, IsStartRefusal, LeavesNoStore, LeavesRun, Runs, ended};
@@ -22,7 +22,7 @@ use rnv_base::{Folder, List, Text};
 use rnv_disk::Disk;
 use rnv_journal::StartError;
 use rnv_plan::RunError;
-use rnv_store::{Forge, JournalForge, StartRefused};
+use rnv_forge::{Forge, JournalForge, StartRefused};
 use std::alloc::Global;
 
 /// Why a run over a disk printed nothing.

@@ -2,9 +2,9 @@ ghost use Rattle.std.specs.Prelude.{◌≡◌, ◌≢◌, ◌⊎◌, ◌≤◌, 
 ghost use Rattle.rnv_base.specs.Causes.{FaultsBy};
 ghost use Rattle.rnv_base.specs.Moment.{IsMoment};
 ghost use Rattle.rnv_desired.specs.Givens.{IsGiven};
-ghost use Rattle.rnv_forge.specs.Requests.{greatest};
-ghost use Rattle.rnv_forge.specs.Store.{after, known};
-ghost use Rattle.rnv_forge.specs.WellFormed.{AreInOrder};
+ghost use Rattle.rnv_repo.specs.Requests.{greatest};
+ghost use Rattle.rnv_repo.specs.Store.{after, known};
+ghost use Rattle.rnv_repo.specs.WellFormed.{AreInOrder};
 ghost use Rattle.rnv_outcome.specs.Given.{Given};
 ghost use Rattle.rnv_outcome.specs.Law.{IsFit};
 ghost use Rattle.rnv_outcome.specs.Steps.{steps};
@@ -17,11 +17,11 @@ ghost use Rattle.rnv_run.specs.Stage.{IsPlain, given_by, plain_terms};
 
 use rnv_base::{Folder, List, Text};
 use rnv_desired::desired;
-use rnv_forge::{Repo, Write};
+use rnv_repo::{Repo, Write};
 use rnv_outcome::Item;
 use rnv_plan::{RunError, gather_base};
 use rnv_steps::{Terms, Written, contents, end, work};
-use rnv_store::Forge;
+use rnv_forge::Forge;
 use std::alloc::{AllocError, Global};
 use std::convert::AsStr;
 

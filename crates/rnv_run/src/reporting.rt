@@ -2,14 +2,14 @@ ghost use Rattle.std.specs.Prelude.{◌≡◌, ◌≢◌, ◌⊎◌, ◌≤◌, 
 ghost use Rattle.rnv_base.specs.Causes.{FaultsBy};
 ghost use Rattle.rnv_base.specs.Moment.{IsMoment};
 ghost use Rattle.rnv_desired.specs.Givens.{IsGiven};
-ghost use Rattle.rnv_forge.specs.declared.repo.Repo.{Repo as Record};
-ghost use Rattle.rnv_forge.specs.declared.write.Write.{Write as Change};
-ghost use Rattle.rnv_forge.specs.Store.{after, known};
+ghost use Rattle.rnv_repo.specs.declared.repo.Repo.{Repo as Record};
+ghost use Rattle.rnv_repo.specs.declared.write.Write.{Write as Change};
+ghost use Rattle.rnv_repo.specs.Store.{after, known};
 ghost use Rattle.rnv_journal.specs.Readings.{IsAtRest, KeepsOne};
 ghost use Rattle.rnv_outcome.specs.Given.{Given};
-ghost use Rattle.rnv_payload.specs.Spelling.{spelling};
-ghost use Rattle.rnv_store.specs.Forge.{LeavesWrites};
-ghost use Rattle.rnv_store.specs.Writes.{length_of};
+ghost use Rattle.rnv_spelling.specs.Spelling.{spelling};
+ghost use Rattle.rnv_forge.specs.Forge.{LeavesWrites};
+ghost use Rattle.rnv_forge.specs.Writes.{length_of};
 ghost use Rattle.rnv_run.specs.Begun.{BeginsOrStays};
 ghost use Rattle.rnv_run.specs.Front.{IsFront};
 ghost use Rattle.rnv_run.specs.Repository.{IfCaused, IsOfRepo, IsRepoRefusal, IsRun, IsRunDone};
@@ -18,7 +18,7 @@ ghost use Rattle.rnv_run.specs.Run.{IsResumed, IsStoppedRun};
 use crate::{do_run, plan_run, run_text};
 use rnv_base::{Folder, List, Text};
 use rnv_plan::RunError;
-use rnv_store::Forge;
+use rnv_forge::Forge;
 use std::alloc::Global;
 
 // Runs over a repository of the forge as `run_repo` does, and answers the text of its writes. It is made

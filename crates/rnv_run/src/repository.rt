@@ -2,14 +2,14 @@ ghost use Rattle.std.specs.Prelude.{◌≡◌, ◌≢◌, ◌⊎◌, ◌≤◌, 
 ghost use Rattle.rnv_base.specs.Causes.{FaultsBy};
 ghost use Rattle.rnv_base.specs.Moment.{IsMoment};
 ghost use Rattle.rnv_desired.specs.Givens.{IsGiven};
-ghost use Rattle.rnv_forge.specs.declared.repo.Repo.{Repo as Record};
-ghost use Rattle.rnv_forge.specs.declared.write.Write.{Write as Change};
-ghost use Rattle.rnv_forge.specs.Store.{after, known};
+ghost use Rattle.rnv_repo.specs.declared.repo.Repo.{Repo as Record};
+ghost use Rattle.rnv_repo.specs.declared.write.Write.{Write as Change};
+ghost use Rattle.rnv_repo.specs.Store.{after, known};
 ghost use Rattle.rnv_journal.specs.Readings.{IsAtRest, KeepsOne};
 ghost use Rattle.rnv_outcome.specs.Given.{Given};
-ghost use Rattle.rnv_payload.specs.Spelling.{spelling};
-ghost use Rattle.rnv_store.specs.Forge.{LeavesWrites};
-ghost use Rattle.rnv_store.specs.Writes.{length_of};
+ghost use Rattle.rnv_spelling.specs.Spelling.{spelling};
+ghost use Rattle.rnv_forge.specs.Forge.{LeavesWrites};
+ghost use Rattle.rnv_forge.specs.Writes.{length_of};
 ghost use Rattle.rnv_run.specs.Begun.{BeginsOrStays};
 ghost use Rattle.rnv_run.specs.Front.{IsFront};
 ghost use Rattle.rnv_run.specs.Planned.{IsRunMade};
@@ -19,7 +19,7 @@ ghost use Rattle.rnv_run.specs.Run.{IsResumed, IsStoppedRun};
 use crate::{Summary, do_run, plan_run};
 use rnv_base::{Folder, Text};
 use rnv_plan::RunError;
-use rnv_store::Forge;
+use rnv_forge::Forge;
 use std::alloc::Global;
 
 /// Runs over a repository of the forge at this moment, in seconds since 1970: makes its branches and

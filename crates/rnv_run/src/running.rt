@@ -1,13 +1,13 @@
 ghost use Rattle.std.specs.Prelude.{◌≡◌, ◌≢◌, ◌≤◌, ◌+◌, ◌++◌, ℕ, List as Items, [], false, length, map, IfErr, IfOk, OnOk};
 ghost use Rattle.rnv_base.specs.Causes.{FaultsBy};
-ghost use Rattle.rnv_forge.specs.declared.repo.Repo.{Repo as Record};
-ghost use Rattle.rnv_forge.specs.declared.write.Write.{Write as Change};
-ghost use Rattle.rnv_forge.specs.Store.{after, known};
+ghost use Rattle.rnv_repo.specs.declared.repo.Repo.{Repo as Record};
+ghost use Rattle.rnv_repo.specs.declared.write.Write.{Write as Change};
+ghost use Rattle.rnv_repo.specs.Store.{after, known};
 ghost use Rattle.rnv_journal.specs.Readings.{IsAtRest, KeepsOne};
 ghost use Rattle.rnv_outcome.specs.Given.{Given};
-ghost use Rattle.rnv_payload.specs.Spelling.{spelling};
-ghost use Rattle.rnv_store.specs.Forge.{LeavesWrites};
-ghost use Rattle.rnv_store.specs.Writes.{length_of};
+ghost use Rattle.rnv_spelling.specs.Spelling.{spelling};
+ghost use Rattle.rnv_forge.specs.Forge.{LeavesWrites};
+ghost use Rattle.rnv_forge.specs.Writes.{length_of};
 ghost use Rattle.rnv_run.specs.Front.{IsFront, StandsSince};
 ghost use Rattle.rnv_run.specs.Planned.{IsPlannedBy};
 ghost use Rattle.rnv_run.specs.Run.{IsResumed, IsRunRefusal, IsStoppedRun, LeavesOutcome, LeavesRest};
@@ -16,7 +16,7 @@ use crate::preparing::do_all;
 use crate::{PlannedRun, Summary};
 use rnv_base::Share;
 use rnv_plan::RunError;
-use rnv_store::Forge;
+use rnv_forge::Forge;
 use std::alloc::Global;
 
 /// Does the writes of a run that is planned over a repository of the forge, and answers what it did. All

@@ -6,7 +6,7 @@ ghost use Rattle.rnv_steps.specs.Told.{HaveBranches};
 use crate::stepping::greatest;
 use crate::{Terms, contents, end, made_items, work};
 use rnv_base::{Bytes, List, Text, UpdateKind};
-use rnv_forge::{Branch, EditedFile, FileAt, Key, Repo, Request, RequestState, Write};
+use rnv_repo::{Branch, EditedFile, FileAt, Key, Repo, Request, RequestState, Write};
 use rnv_outcome::{Item, ItemEdits, Rebase, Section, Shown};
 use std::alloc::{AllocError, Global};
 use std::convert::{AsSlice, AsStr};

@@ -7,11 +7,11 @@ use Rattle.rnv_desired.specs.Desired.{IsItemOf, item_of}
 use Rattle.rnv_desired.specs.Edits.{AreEdits, GivesFiles, IsEditedFile, is_edited}
 use Rattle.rnv_desired.specs.Givens.{IsGiven}
 use Rattle.rnv_desired.proofs.Made.{branch-of, files-made}
-use Rattle.rnv_forge.specs.Files.{MarkedFile}
-use Rattle.rnv_forge.specs.declared.branch.Branch.{Branch}
-use Rattle.rnv_forge.specs.declared.repo.Repo.{Repo}
-use Rattle.rnv_forge.specs.declared.write.Write.{Write}
-use Rattle.rnv_forge.specs.declared.write.Write.TheVariants.{SetBase, PutBranch, DropBranch, OpenRequest, EditRequest, Autoclose, Finish}
+use Rattle.rnv_repo.specs.Files.{MarkedFile}
+use Rattle.rnv_repo.specs.declared.branch.Branch.{Branch}
+use Rattle.rnv_repo.specs.declared.repo.Repo.{Repo}
+use Rattle.rnv_repo.specs.declared.write.Write.{Write}
+use Rattle.rnv_repo.specs.declared.write.Write.TheVariants.{SetBase, PutBranch, DropBranch, OpenRequest, EditRequest, Autoclose, Finish}
 use Rattle.rnv_outcome.specs.declared.item.Item.{Item}
 use Rattle.rnv_outcome.specs.declared.item.ItemEdits.{ItemEdits}
 use Rattle.rnv_outcome.specs.declared.item.ItemEdits.TheVariants.{Plain, Errored}

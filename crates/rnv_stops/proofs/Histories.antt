@@ -6,10 +6,10 @@ use Rattle.rnv_commands.specs.OnDisk.{IsStored}
 use Rattle.rnv_desired.proofs.Apart.{desired_apart, given_fit}
 use Rattle.rnv_disk.specs.Images.{Image}
 use Rattle.rnv_disk.specs.Stops.{LeftNow, Past}
-use Rattle.rnv_forge.specs.Store.{ArePermitted, IsSound, after}
-use Rattle.rnv_forge.specs.WellFormed.{IsWellFormed}
-use Rattle.rnv_forge.specs.declared.repo.Repo.{Repo}
-use Rattle.rnv_forge.specs.declared.write.Write.{Write}
+use Rattle.rnv_repo.specs.Store.{ArePermitted, IsSound, after}
+use Rattle.rnv_repo.specs.WellFormed.{IsWellFormed}
+use Rattle.rnv_repo.specs.declared.repo.Repo.{Repo}
+use Rattle.rnv_repo.specs.declared.write.Write.{Write}
 use Rattle.rnv_journal.proofs.Uses.{each_weaker}
 use Rattle.rnv_journal.specs.Reading.{EachReading, HasReadings, IsReading}
 use Rattle.rnv_journal.specs.Readings.{EachReadingNow, HasReadingsNow, IsAtRest, IsReadingNow, ReadsOnly}
@@ -17,7 +17,7 @@ use Rattle.rnv_outcome.specs.Given.{Given}
 use Rattle.rnv_outcome.specs.Law.{IsFit}
 use Rattle.rnv_outcome.specs.Steps.{steps}
 use Rattle.rnv_outcome.proofs.Named.{all_at}
-use Rattle.rnv_payload.specs.Spelling.{spelling}
+use Rattle.rnv_spelling.specs.Spelling.{spelling}
 use Rattle.rnv_run.specs.declared.on_disk.RunRefusal.{RunRefusal}
 use Rattle.rnv_run.specs.Begun.{LeavesOf, LeftOf}
 use Rattle.rnv_run.specs.Begun.LeftOf.{begun as was_begun, kept}

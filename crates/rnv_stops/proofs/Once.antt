@@ -3,12 +3,12 @@ use Rattle.std.proofs.Common.{◌≡◌, ◌⊎◌, inl, inr, ℕ, Bool, true, f
 use Rattle.std.specs.List.{AllByRecursion, flat_map}
 use Rattle.std.specs.Str.{bytes_eq}
 use Rattle.std.proofs.lemmas.Grind.{flat_map-append}
-use Rattle.rnv_forge.specs.declared.branch.Branch.{Branch}
-use Rattle.rnv_forge.specs.declared.repo.Repo.{Repo}
-use Rattle.rnv_forge.specs.declared.request.Request.{Request}
-use Rattle.rnv_forge.specs.declared.write.Write.{Write}
-use Rattle.rnv_forge.specs.declared.write.Write.TheVariants.{SetBase, PutBranch, DropBranch, OpenRequest, EditRequest, Autoclose, Finish}
-use Rattle.rnv_forge.specs.Requests.{live_on, next_number}
+use Rattle.rnv_repo.specs.declared.branch.Branch.{Branch}
+use Rattle.rnv_repo.specs.declared.repo.Repo.{Repo}
+use Rattle.rnv_repo.specs.declared.request.Request.{Request}
+use Rattle.rnv_repo.specs.declared.write.Write.{Write}
+use Rattle.rnv_repo.specs.declared.write.Write.TheVariants.{SetBase, PutBranch, DropBranch, OpenRequest, EditRequest, Autoclose, Finish}
+use Rattle.rnv_repo.specs.Requests.{live_on, next_number}
 use Rattle.rnv_outcome.specs.declared.item.Item.{Item}
 use Rattle.rnv_outcome.specs.Content.{Base, base_of, content, is_stale, result, result_over, texts}
 use Rattle.rnv_outcome.specs.Given.{Given}

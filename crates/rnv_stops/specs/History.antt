@@ -5,16 +5,16 @@ use Rattle.rnv_base.specs.Files.{NamedFile}
 use Rattle.rnv_desired.specs.Edits.{IsEditedFile, is_edited}
 use Rattle.rnv_disk.specs.Images.{Image}
 use Rattle.rnv_disk.specs.Stops.{LeftNow, Past}
-use Rattle.rnv_forge.specs.Files.{MarkedFile}
-use Rattle.rnv_forge.specs.declared.branch.Branch.{Branch}
-use Rattle.rnv_forge.specs.declared.repo.Repo.{Repo}
-use Rattle.rnv_forge.specs.declared.write.Write.{Write}
-use Rattle.rnv_forge.specs.declared.write.Write.TheVariants.{SetBase, PutBranch, DropBranch, OpenRequest, EditRequest, Autoclose, Finish}
+use Rattle.rnv_repo.specs.Files.{MarkedFile}
+use Rattle.rnv_repo.specs.declared.branch.Branch.{Branch}
+use Rattle.rnv_repo.specs.declared.repo.Repo.{Repo}
+use Rattle.rnv_repo.specs.declared.write.Write.{Write}
+use Rattle.rnv_repo.specs.declared.write.Write.TheVariants.{SetBase, PutBranch, DropBranch, OpenRequest, EditRequest, Autoclose, Finish}
 use Rattle.rnv_journal.specs.Readings.{EachReadingNow, IsAtRest, IsReadingNow, ReadsOnly}
 use Rattle.rnv_outcome.specs.Given.{Given}
 use Rattle.rnv_outcome.specs.Law.{HaveDistinct}
 use Rattle.rnv_outcome.specs.Steps.{steps}
-use Rattle.rnv_payload.specs.Spelling.{spelling}
+use Rattle.rnv_spelling.specs.Spelling.{spelling}
 use Rattle.rnv_plan.specs.Gather.{IsGathered}
 use Rattle.rnv_plan.specs.declared.inputs.PickedFile.{PickedFile}
 use Rattle.rnv_run.specs.Front.{SpellsFront}

@@ -1,7 +1,7 @@
 ghost use Rattle.std.specs.Prelude.{ℕ, List};
 ghost use Rattle.rnv_base.specs.Files.{NamedFile};
-ghost use Rattle.rnv_forge.specs.declared.repo.Repo.{Repo};
-ghost use Rattle.rnv_forge.specs.declared.write.Write.{Write};
+ghost use Rattle.rnv_repo.specs.declared.repo.Repo.{Repo};
+ghost use Rattle.rnv_repo.specs.declared.write.Write.{Write};
 ghost use Rattle.rnv_journal.specs.Readings.{HasReadingsNow};
 ghost use Rattle.rnv_outcome.specs.Given.{Given};
 ghost use Rattle.rnv_outcome.specs.Steps.{steps};

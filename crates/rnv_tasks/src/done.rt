@@ -1,5 +1,5 @@
 use rnv_base::{List, Text};
-use rnv_forge::EditedFile;
+use rnv_repo::EditedFile;
 
 /// Files behind their tasks: each as its last command gave it, or as it was where it had a problem, and
 /// all problems in one text, empty where there is none.

@@ -4,7 +4,7 @@ ghost use Rattle.rnv_tasks.specs.Tasks.{file_with, problems_of};
 
 use crate::treating::Treated;
 use rnv_base::{List, Share, Text};
-use rnv_forge::EditedFile;
+use rnv_repo::EditedFile;
 use std::alloc::{AllocError, Global};
 use std::convert::AsStr;
 

@@ -11,7 +11,7 @@ use crate::keeping::keep;
 use crate::treating::treat_file;
 use crate::{Spawner, TaskError, Tasked};
 use rnv_base::{List, Share, Text};
-use rnv_forge::EditedFile;
+use rnv_repo::EditedFile;
 use std::alloc::Global;
 use std::convert::AsSlice;
 

@@ -1,6 +1,6 @@
 use crate::{MemSpawner, SteadySpawner, TaskAnswer, TaskCall, TaskEnd, TaskError, tasked};
 use rnv_base::{Bytes, List, Text};
-use rnv_forge::EditedFile;
+use rnv_repo::EditedFile;
 use std::alloc::{AllocError, Global};
 use std::convert::{AsSlice, AsStr};
 use std::test::Fail;

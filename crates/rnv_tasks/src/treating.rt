@@ -9,7 +9,7 @@ ghost use Rattle.rnv_tasks.specs.declared.error.TaskError.TheVariants.{TaskFault
 use crate::command::Command;
 use crate::{SpawnError, Spawner, TaskEnd, TaskError};
 use rnv_base::{Bytes, Text};
-use rnv_forge::EditedFile;
+use rnv_repo::EditedFile;
 use std::alloc::{AllocError, Global};
 use std::convert::{AsSlice, AsStr};
 

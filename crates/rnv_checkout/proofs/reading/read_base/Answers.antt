@@ -3,7 +3,7 @@ use Rattle.rnv_base.specs.Files.{NamedFile, listed_of}
 use Rattle.rnv_checkout.specs.Base.{folder_of, kept_of, IsBase}
 use Rattle.rnv_checkout.specs.Gathered.{IsGathered}
 use Rattle.rnv_checkout.specs.Refusal.{IsWrong, IsRefusal}
-use Rattle.rnv_forge.specs.WellFormed.{AreInOrder}
+use Rattle.rnv_repo.specs.WellFormed.{AreInOrder}
 use Rattle.rnv_checkout.proofs.Order.{kept_in_order}
 use Rattle.rnv_checkout.proofs.Outcomes.{kept_are, ok_both, err_weaker, refusal_of}
 use Rattle.rnv_checkout.proofs.reading.read_base.Goals as goal

@@ -3,8 +3,8 @@ use Rattle.std.specs.List.{prefix_len}
 use Rattle.std.specs.Ordering.{is_lt}
 use Rattle.std.specs.Str.{bytes_eq}
 use Rattle.rnv_base.specs.Files.{NamedFile}
-use Rattle.rnv_forge.specs.Files.{MarkedFile}
-use Rattle.rnv_forge.proofs.Texts.{cmp}
+use Rattle.rnv_repo.specs.Files.{MarkedFile}
+use Rattle.rnv_repo.proofs.Texts.{cmp}
 use Rattle.rnv_commands.proofs.Differences.{turn_new, turn_same}
 use Rattle.rnv_commands.proofs.difference.add_up_to.Goals as goal
 

@@ -1,10 +1,10 @@
 use Rattle.std.proofs.Common.{◌≤◌, List, ◌∷◌, [], subst, sym, arith}
 use Rattle.std.proofs.lemmas.Bool.{iff_false}
-use Rattle.rnv_forge.specs.declared.write.Write.TheVariants.{SetBase}
-use Rattle.rnv_store.specs.Forge.{IsOldOrNext}
-use Rattle.rnv_forge.specs.declared.write.Write.{Write}
-use Rattle.rnv_store.specs.Writes.{length_of}
-use Rattle.rnv_store.proofs.Uses.{leaves_weaker}
+use Rattle.rnv_repo.specs.declared.write.Write.TheVariants.{SetBase}
+use Rattle.rnv_forge.specs.Forge.{IsOldOrNext}
+use Rattle.rnv_repo.specs.declared.write.Write.{Write}
+use Rattle.rnv_forge.specs.Writes.{length_of}
+use Rattle.rnv_forge.proofs.Uses.{leaves_weaker}
 use Rattle.rnv_commands.specs.Import.{IsOldOrImport}
 use Rattle.rnv_commands.proofs.Imports.{front_length, none_of, old_or_import, prints_new, prints_same, ready_permitted, some_of, write_refused}
 use Rattle.rnv_commands.proofs.Stops.{still, still_import}

@@ -1,7 +1,7 @@
 use Rattle.std.proofs.Common.{◌≡◌, ◌∙◌, ◌+◌, List, subst, sym, ap}
-use Rattle.rnv_forge.specs.Base.{path_of}
-use Rattle.rnv_forge.specs.Files.{MarkedFile}
-use Rattle.rnv_forge.specs.Named.{IsRisingBy}
+use Rattle.rnv_repo.specs.Base.{path_of}
+use Rattle.rnv_repo.specs.Files.{MarkedFile}
+use Rattle.rnv_repo.specs.Named.{IsRisingBy}
 use Rattle.rnv_commands.specs.Difference.{IsDifference}
 use Rattle.rnv_commands.specs.Import.{files_of, import_text}
 use Rattle.rnv_commands.proofs.Imports.{prepared_of}

@@ -1,7 +1,7 @@
 use Rattle.std.proofs.Common.{◌<◌, Option, subst, sym}
-use Rattle.rnv_forge.specs.Base.{path_of}
-use Rattle.rnv_forge.specs.WellFormed.{AreInOrder}
-use Rattle.rnv_forge.specs.declared.repo.Repo.{Repo}
+use Rattle.rnv_repo.specs.Base.{path_of}
+use Rattle.rnv_repo.specs.WellFormed.{AreInOrder}
+use Rattle.rnv_repo.specs.declared.repo.Repo.{Repo}
 use Rattle.rnv_commands.specs.Import.{files_of, revision_of}
 use Rattle.rnv_commands.proofs.Imports.{files_in_order, revision_small}
 use Rattle.rnv_commands.proofs.import.import_of.Goals as goal

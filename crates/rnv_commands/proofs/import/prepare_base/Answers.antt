@@ -1,12 +1,12 @@
 use Rattle.std.proofs.Common.{◌≤◌, ◌++◌, List, [], Err, ap, subst}
-use Rattle.rnv_forge.specs.Store.{after}
-use Rattle.rnv_forge.specs.declared.write.Write.{Write}
-use Rattle.rnv_forge.specs.declared.write.Write.TheVariants.{SetBase}
-use Rattle.rnv_store.specs.Writes.{length_of}
-use Rattle.rnv_store.specs.Refused.{IsFirstRefused}
+use Rattle.rnv_repo.specs.Store.{after}
+use Rattle.rnv_repo.specs.declared.write.Write.{Write}
+use Rattle.rnv_repo.specs.declared.write.Write.TheVariants.{SetBase}
+use Rattle.rnv_forge.specs.Writes.{length_of}
+use Rattle.rnv_forge.specs.Refused.{IsFirstRefused}
 use Rattle.rnv_commands.proofs.Imports.{not_refused}
 use Rattle.rnv_commands.proofs.Stops.{still}
-use Rattle.rnv_store.proofs.Uses.{same_past}
+use Rattle.rnv_forge.proofs.Uses.{same_past}
 use Rattle.rnv_commands.proofs.import.prepare_base.Goals as goal
 
 pub returns-in_err-list-clause-any_moment : goal.returns-in_err-list-clause-any_moment

@@ -1,7 +1,7 @@
 use Rattle.std.proofs.Common.{◌≡◌, ◌∷◌, inl, []}
-use Rattle.rnv_forge.specs.declared.write.Write.TheVariants.{SetBase}
-use Rattle.rnv_store.specs.Forge.{IsOldOrNext}
-use Rattle.rnv_store.proofs.Uses.{leaves_weaker, same_keeps}
+use Rattle.rnv_repo.specs.declared.write.Write.TheVariants.{SetBase}
+use Rattle.rnv_forge.specs.Forge.{IsOldOrNext}
+use Rattle.rnv_forge.proofs.Uses.{leaves_weaker, same_keeps}
 use Rattle.rnv_commands.proofs.Stops.{write_leaves}
 use Rattle.rnv_journal.proofs.Ones.{one_then}
 use Rattle.rnv_commands.proofs.import.write_base.Goals as goal

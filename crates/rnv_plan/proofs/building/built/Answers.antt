@@ -1,6 +1,6 @@
 use Rattle.std.proofs.Common.{◌≡◌, ℕ, List, Err, codes, true, subst, sym, ◌∙◌, ap}
 use Rattle.std.proofs.lemmas.Result.{err_from_is_err_and}
-use Rattle.rnv_forge.specs.Named.{IsRisingBy}
+use Rattle.rnv_repo.specs.Named.{IsRisingBy}
 use Rattle.rnv_plan.specs.declared.error.RunError.TheVariants.{NotBuilt}
 use Rattle.rnv_plan.specs.declared.taken.TakenFile.{TakenFile}
 use Rattle.rnv_plan.specs.Taken.{is_configured}

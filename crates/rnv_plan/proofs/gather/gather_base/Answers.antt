@@ -1,5 +1,5 @@
 use Rattle.std.proofs.Common.{List, ap, sym, subst}
-use Rattle.rnv_forge.specs.Files.{MarkedFile}
+use Rattle.rnv_repo.specs.Files.{MarkedFile}
 use Rattle.rnv_plan.specs.declared.inputs.Inputs.{Inputs}
 use Rattle.rnv_plan.specs.Gather.{AreFit, IsGathered, IsPickedFrom}
 use Rattle.rnv_plan.proofs.Fit.{are-fit}

@@ -1,6 +1,6 @@
 use Rattle.std.proofs.Common.{◌≡◌, ◌<◌, List, length, codes, map, ap, ◌∙◌}
 use Rattle.rnv_base.specs.declared.kinds.ManagerKind.TheVariants.{Npm}
-use Rattle.rnv_forge.specs.Files.{MarkedFile}
+use Rattle.rnv_repo.specs.Files.{MarkedFile}
 use Rattle.rnv_manager.specs.declared.found.Found.{Found}
 use Rattle.rnv_manager.specs.Finds.{views}
 use Rattle.rnv_pick.specs.declared.dep.Dep.{Dep}

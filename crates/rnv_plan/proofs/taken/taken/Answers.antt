@@ -1,6 +1,6 @@
 use Rattle.std.proofs.Common.{◌≡◌, ◌+◌, ◌<◌, List, [], ◌∷◌, ◌++◌, Err, length, take, codes, ap, sym, subst, ◌∙◌, arith}
 use Rattle.std.proofs.lemmas.Result.{err_from_is_err_and}
-use Rattle.rnv_forge.specs.Files.{MarkedFile}
+use Rattle.rnv_repo.specs.Files.{MarkedFile}
 use Rattle.rnv_pick.specs.declared.dep.Dep.{Dep}
 use Rattle.rnv_plan.specs.declared.error.RunError.TheVariants.{Limit}
 use Rattle.rnv_plan.specs.declared.taken.TakenFile.{TakenFile}

@@ -1,6 +1,6 @@
 use Rattle.rnv_commands.proofs.Stops.{stored_of}
-use Rattle.rnv_store.proofs.Writes.{all_front}
-use Rattle.rnv_forge.specs.WellFormed.{IsWellFormed}
+use Rattle.rnv_forge.proofs.Writes.{all_front}
+use Rattle.rnv_repo.specs.WellFormed.{IsWellFormed}
 use Rattle.rnv_journal.proofs.Ones.{one_then}
 use Rattle.rnv_journal.proofs.Uses.{reading_now}
 use Rattle.rnv_run.proofs.Disks.{ended_left, runs_as, runs_of, runs_refused, start_left}

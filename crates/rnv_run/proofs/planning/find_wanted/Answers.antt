@@ -1,5 +1,5 @@
 use Rattle.std.proofs.Common.{◌≡◌, ℕ, List, [], Some, subst, arith}
-use Rattle.rnv_forge.specs.Store.{after, known}
+use Rattle.rnv_repo.specs.Store.{after, known}
 use Rattle.rnv_plan.proofs.Told.{told-weaker}
 use Rattle.rnv_run.specs.Repository.{IsBaseRefusal, IsUnwanted, no_items}
 use Rattle.rnv_run.proofs.Wanted.{not_of_repo, unknown_disk, unknown_folder, unknown_of, unknown_told}

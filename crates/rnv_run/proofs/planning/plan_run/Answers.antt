@@ -1,6 +1,6 @@
 use Rattle.std.proofs.Common.{◌≡◌, List, [], Some, subst, sym}
 use Rattle.rnv_base.specs.Moment.{IsMoment}
-use Rattle.rnv_forge.specs.Store.{after, known}
+use Rattle.rnv_repo.specs.Store.{after, known}
 use Rattle.rnv_run.specs.Stage.{given_by}
 use Rattle.rnv_run.proofs.Numbers.{numbers_left}
 use Rattle.rnv_run.proofs.Wanted.{plain_given}

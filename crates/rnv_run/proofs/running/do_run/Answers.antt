@@ -1,10 +1,10 @@
 use Rattle.std.proofs.Common.{◌++◌, List, [], refl, sym, subst, ap, ◌∙◌, arith}
 use Rattle.std.specs.List.{AllByRecursion}
-use Rattle.rnv_forge.specs.declared.write.Write.{Write}
-use Rattle.rnv_forge.specs.Store.{ArePermitted, after}
-use Rattle.rnv_forge.specs.WellFormed.{IsOrderly}
+use Rattle.rnv_repo.specs.declared.write.Write.{Write}
+use Rattle.rnv_repo.specs.Store.{ArePermitted, after}
+use Rattle.rnv_repo.specs.WellFormed.{IsOrderly}
 use Rattle.rnv_journal.proofs.Ones.{one_self}
-use Rattle.rnv_store.specs.Forge.{LeavesWrites}
+use Rattle.rnv_forge.specs.Forge.{LeavesWrites}
 use Rattle.rnv_run.specs.Front.{IsFront, StandsSince}
 use Rattle.rnv_run.specs.Run.{IsRunRefusal}
 use Rattle.rnv_run.proofs.Numbers.{room_now}

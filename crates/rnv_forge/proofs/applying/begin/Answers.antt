@@ -1,5 +1,0 @@
-use Rattle.rnv_forge.proofs.Merges.{rising_nothing}
-use Rattle.rnv_forge.proofs.applying.begin.Goals as goal
-
-pub merged-requires-clause-files : goal.merged-requires-clause-files
-merged-requires-clause-files c = rising_nothing c.empty.result c.empty.ensures

@@ -1,6 +1,0 @@
-use Rattle.std.proofs.Common.{◌≡◌, ◌+◌, length, take}
-use Rattle.std.specs.Prelude.{sum_by}
-use Rattle.rnv_forge.proofs.base.is_over.Given as goal
-
-abbrev pub invariant-loop-file : goal.invariant-loop-file
-invariant-loop-file l = l.room + sum_by (λ f. length f.bytes) (take l.file-index l.files) ≡ 67108864

@@ -1,0 +1,13 @@
+pub mod Applying
+pub mod Base
+pub mod Bounded
+pub mod Files
+pub mod Live
+pub mod Meaning
+pub mod Merging
+pub mod Named
+pub mod Refusing
+pub mod Requests
+pub mod Store
+pub mod Texts
+pub mod WellFormed

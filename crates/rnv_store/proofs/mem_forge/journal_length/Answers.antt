@@ -1,5 +1,0 @@
-use Rattle.rnv_store.proofs.InMemory.{lengthened_both}
-use Rattle.rnv_store.proofs.mem_forge.journal_length.Goals as goal
-
-pub returns : goal.returns
-returns c = lengthened_both c.args.standing.now c.args.list.now _ _ c.in_ok-length.ensures c.in_ok-length-2.ensures

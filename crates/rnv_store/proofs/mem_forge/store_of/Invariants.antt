@@ -1,5 +1,0 @@
-use Rattle.rnv_store.proofs.InMemory.{IsBuilt}
-use Rattle.rnv_store.proofs.mem_forge.store_of.Given as goal
-
-abbrev pub invariant-loop-write : goal.invariant-loop-write
-invariant-loop-write l = IsBuilt l.writes l.write-index l.store

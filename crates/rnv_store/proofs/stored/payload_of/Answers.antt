@@ -1,5 +1,0 @@
-use Rattle.rnv_payload.proofs.WriteFormats.{whole_again}
-use Rattle.rnv_store.proofs.stored.payload_of.Goals as goal
-
-pub returns-clause-read : goal.returns-clause-read
-returns-clause-read c = whole_again _ c.args.write.now c.has_texts.ensures c.in_ok-payload.ensures
