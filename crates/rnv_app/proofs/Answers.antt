@@ -9,7 +9,7 @@ use Rattle.rnv_disk.specs.Stops.{Past}
 use Rattle.rnv_journal.specs.Readings.{KeepsReadings}
 use Rattle.rnv_commands.proofs.Stops.{or_import}
 use Rattle.rnv_commands.specs.OnDisk.{IsDamaged}
-use Rattle.rnv_plan.specs.declared.item.Item.{Item}
+use Rattle.rnv_plan.specs.declared.group.Group.{Group}
 use Rattle.rnv_plan.specs.declared.error.RunError.{RunError}
 use Rattle.rnv_plan.specs.declared.error.RunError.TheVariants as run
 use Rattle.rnv_plan.specs.Plan.{IsPlanned, IsPlanRefusal}
@@ -19,14 +19,14 @@ use Rattle.rnv_commands.specs.declared.error.CommandError.{CommandError}
 use Rattle.rnv_commands.specs.declared.error.CommandError.TheVariants as command
 use Rattle.rnv_run.specs.declared.on_disk.RunRefusal.{RunRefusal}
 use Rattle.rnv_run.specs.declared.on_disk.RunRefusal.TheVariants as of_run
-use Rattle.rnv_app.specs.declared.end.Refusal.{Refusal}
-use Rattle.rnv_app.specs.declared.end.Refusal.TheVariants.{Memory, Usage, UnknownRepo, FolderFault, DiskFault, NotAJournal, Limit, IndexRefused, NotBuilt}
+use Rattle.rnv_app.specs.declared.refusal.Refusal.{Refusal}
+use Rattle.rnv_app.specs.declared.refusal.Refusal.TheVariants.{Memory, Usage, UnknownRepo, FolderFault, DiskFault, NotAJournal, Limit, IndexRefused, NotBuilt}
 use Rattle.rnv_app.specs.declared.words.Words.{Words}
 use Rattle.rnv_app.specs.declared.words.WordsError.{WordsError}
 use Rattle.rnv_app.specs.declared.words.WordsError.TheVariants.{Usage as words_usage, Memory as words_memory}
 use Rattle.rnv_app.specs.Words.{IsCommand, IsImport, IsOfStore, IsPlan, IsRun, IsShow, IsTimed, IsUsage}
 use Rattle.rnv_app.specs.Text.{plan_text}
-use Rattle.rnv_app.specs.End.{code_of, plan_refusal_of, refusal_of, status_of, IsCause, IsCauseOr, IsTold}
+use Rattle.rnv_app.specs.Refusals.{code_of, plan_refusal_of, refusal_of, status_of, IsCause, IsCauseOr, IsTold}
 use Rattle.rnv_app.specs.Top.{refusing, running, HasPlan, HasNoPlan, Imports, IsAnswered, IsDamagedOr, IsForPlan, IsImportEnd, IsFree, IsNamed, IsOfPlan, IsPrinted, IsPrintedInPart, IsRefusedWith, IsRunEnd, IsShowEnd, IsShowing, LeavesNoStore, Sight, Tells}
 use Rattle.rnv_run.specs.OnDisk.{Runs}
 use Rattle.rnv_run.proofs.Disks.{runs_none}
@@ -34,7 +34,7 @@ use Rattle.rnv_app.proofs.Four.{one-repo, one_time}
 use Rattle.rnv_app.proofs.Ends.{Answer, done_at, part_at, usage_at}
 use Rattle.rnv_app.proofs.Stores.{import_damaged, run_damaged, show_damaged}
 
-pub has_plan : (words : List (List ℕ)) (files : List NamedFile) (text repo : List ℕ) (now : ℕ) (items : List Item) → IsPlan words repo now → IsPlanned repo now files items → ((error : RunError) → ¬ (IsPlanRefusal repo now files error)) → (time : List ℕ) × IsMomentText time now × (text ≡ plan_text time items) → HasPlan words files text
+pub has_plan : (words : List (List ℕ)) (files : List NamedFile) (text repo : List ℕ) (now : ℕ) (items : List Group) → IsPlan words repo now → IsPlanned repo now files items → ((error : RunError) → ¬ (IsPlanRefusal repo now files error)) → (time : List ℕ) × IsMomentText time now × (text ≡ plan_text time items) → HasPlan words files text
 has_plan words files text repo now items asked planned free printed = record {
   repo = repo;
   now = now;

@@ -9,9 +9,9 @@ use Rattle.rnv_run.specs.declared.on_disk.RunRefusal.TheVariants as of_run
 use Rattle.rnv_run.specs.OnDisk.{IsRefusedIn, Runs}
 use Rattle.rnv_run.proofs.Exact.{refused_one, run_unrefused, stored_whole}
 use Rattle.rnv_app.specs.Top.{running, IsFreeRun, IsRunCauseOr, IsRunEnd, Sight}
-use Rattle.rnv_app.specs.declared.end.Refusal.{Refusal}
-use Rattle.rnv_app.specs.declared.end.Refusal.TheVariants.{Memory, Usage, UnknownRepo, FolderFault, DiskFault, NotAJournal, Limit, IndexRefused, NotBuilt}
-use Rattle.rnv_app.specs.End.{code_of, refusal_text, line_of, status_of as error_status, IsLine, IsStatus, IsTold}
+use Rattle.rnv_app.specs.declared.refusal.Refusal.{Refusal}
+use Rattle.rnv_app.specs.declared.refusal.Refusal.TheVariants.{Memory, Usage, UnknownRepo, FolderFault, DiskFault, NotAJournal, Limit, IndexRefused, NotBuilt}
+use Rattle.rnv_app.specs.Refusals.{code_of, refusal_text, line_of, status_of as error_status, IsLine, IsStatus, IsTold}
 
 abbrev pub Answer : Type 0
 Answer = Result (List ℕ) Refusal

@@ -18,7 +18,7 @@ use Rattle.rnv_repo.specs.declared.write.Write.TheVariants.{SetBase}
 use Rattle.rnv_plan.proofs.Bases.{kept-one, none-above, within-above}
 use Rattle.rnv_run.proofs.Exact.{one_stored}
 use Rattle.rnv_forge.specs.Writes.{length_of}
-use Rattle.rnv_app.specs.End.{code_of, refusal_of}
+use Rattle.rnv_app.specs.Refusals.{code_of, refusal_of}
 use Rattle.rnv_app.specs.Top.{HasNoImport, IsCaused}
 
 module _ (files : List NamedFile) (name : List ℕ) where

@@ -3,7 +3,7 @@ use Rattle.std.proofs.Common.{◌≡◌, ℕ, ◌+◌, ◌≤◌, List, [], ◌+
 use Rattle.std.proofs.Math.Seq.{take-append-add}
 use Rattle.std.proofs.lemmas.List.{take-append-le}
 use Rattle.rnv_base.specs.Causes.{Rose}
-use Rattle.rnv_app.specs.End.{IsLine}
+use Rattle.rnv_app.specs.Refusals.{IsLine}
 
 -- a fault that was counted later was counted since
 pub later-rose : (before mid now : ℕ) → before ≤ mid → Rose mid now → Rose before now

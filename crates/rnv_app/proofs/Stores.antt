@@ -15,9 +15,9 @@ use Rattle.rnv_run.specs.declared.on_disk.RunRefusal.{RunRefusal}
 use Rattle.rnv_run.specs.declared.on_disk.RunRefusal.TheVariants as of_run
 use Rattle.rnv_run.specs.OnDisk.{HasRepo, LeavesNoStore as RunLeaves, Runs}
 use Rattle.rnv_run.proofs.Exact.{one_stored, stored_whole}
-use Rattle.rnv_app.specs.declared.end.Refusal.{Refusal}
-use Rattle.rnv_app.specs.declared.end.Refusal.TheVariants.{Memory, Usage, UnknownRepo, FolderFault, DiskFault, NotAJournal, Limit, IndexRefused, NotBuilt}
-use Rattle.rnv_app.specs.End.{code_of, refusal_of, IsTold}
+use Rattle.rnv_app.specs.declared.refusal.Refusal.{Refusal}
+use Rattle.rnv_app.specs.declared.refusal.Refusal.TheVariants.{Memory, Usage, UnknownRepo, FolderFault, DiskFault, NotAJournal, Limit, IndexRefused, NotBuilt}
+use Rattle.rnv_app.specs.Refusals.{code_of, refusal_of, IsTold}
 use Rattle.rnv_app.specs.Top.{refusing, running, HasNoImport, Imports, IsDamagedOr, IsFreeImport, IsFreeShow, IsImportCauseOr, IsImportEnd, IsLeftAlone, IsRunEnd, IsShowEnd, IsShowing, IsUnknownOr, LeavesNoStore, Sight}
 use Rattle.rnv_app.proofs.Imported.{import_fine, import_one, no_import}
 

@@ -1,4 +1,4 @@
 pub mod Words
 pub mod Text
-pub mod End
+pub mod Refusals
 pub mod Top

@@ -6,7 +6,7 @@ use Rattle.rnv_base.specs.declared.kinds.UpdateKind.{UpdateKind}
 use Rattle.rnv_base.specs.declared.kinds.UpdateKind.TheVariants as kind
 use Rattle.rnv_commands.specs.Printing.{line_end, shown}
 use Rattle.rnv_pick.specs.declared.update.Update.{Update}
-use Rattle.rnv_plan.specs.declared.item.Item.{Item}
+use Rattle.rnv_plan.specs.declared.group.Group.{Group}
 
 abbrev pub kind_word : UpdateKind → List ℕ
 kind_word kind.Pin = codes "pin"
@@ -31,17 +31,17 @@ unfoldable pub line : List ℕ → Update → List ℕ
 line branch u = subject u ++ (change u ++ target branch u)
 
 -- the lines of an item, one for each of its updates
-abbrev pub item_lines : Item → List ℕ
+abbrev pub item_lines : Group → List ℕ
 item_lines item = flat_map (line item.branch) item.updates
 
 -- how many updates there are
-abbrev pub count : List Item → ℕ
+abbrev pub count : List Group → ℕ
 count items = sum_by (λ item. length item.updates) items
 
 -- `N updates, M branches`
-abbrev pub summary : List Item → List ℕ
+abbrev pub summary : List Group → List ℕ
 summary items = decimal (count items) ++ (codes " updates, " ++ (decimal (length items) ++ (codes " branches" ++ line_end)))
 
 -- the whole text of the plan of a moment
-abbrev pub plan_text : List ℕ → List Item → List ℕ
+abbrev pub plan_text : List ℕ → List Group → List ℕ
 plan_text time items = codes "now " ++ (time ++ (line_end ++ (flat_map item_lines items ++ summary items)))

@@ -9,18 +9,18 @@ use Rattle.rnv_disk.specs.Images.{Image}
 use Rattle.rnv_disk.specs.Stops.{Past}
 use Rattle.rnv_journal.specs.Readings.{HasReadingsNow, KeepsReadings, ReadsOnly}
 use Rattle.rnv_journal.specs.declared.start.StartError.TheVariants.{NotAJournal as start_damaged}
-use Rattle.rnv_plan.specs.declared.item.Item.{Item}
+use Rattle.rnv_plan.specs.declared.group.Group.{Group}
 use Rattle.rnv_plan.specs.declared.error.RunError.{RunError}
 use Rattle.rnv_plan.specs.declared.error.RunError.TheVariants as run
 use Rattle.rnv_plan.specs.Plan.{IsPlanned, IsPlanRefusal}
 use Rattle.rnv_run.specs.declared.on_disk.RunRefusal.{RunRefusal}
 use Rattle.rnv_run.specs.OnDisk.{HasRepo, IsRefusedIn, Runs}
 use Rattle.rnv_forge.specs.Start.{LeavesRefused}
-use Rattle.rnv_app.specs.declared.end.Refusal.{Refusal}
-use Rattle.rnv_app.specs.declared.end.Refusal.TheVariants.{Memory, Usage, UnknownRepo, FolderFault, DiskFault, NotAJournal, Limit, IndexRefused, NotBuilt}
+use Rattle.rnv_app.specs.declared.refusal.Refusal.{Refusal}
+use Rattle.rnv_app.specs.declared.refusal.Refusal.TheVariants.{Memory, Usage, UnknownRepo, FolderFault, DiskFault, NotAJournal, Limit, IndexRefused, NotBuilt}
 use Rattle.rnv_app.specs.Words.{IsImport, IsPlan, IsRun, IsShow, IsUsage}
 use Rattle.rnv_app.specs.Text.{plan_text}
-use Rattle.rnv_app.specs.End.{code_of, plan_refusal_of, refusal_of, refusal_text, run_refusal_of, status_of, IsLine, IsTold}
+use Rattle.rnv_app.specs.Refusals.{code_of, plan_refusal_of, refusal_of, refusal_text, run_refusal_of, status_of, IsLine, IsTold}
 
 -- plan
 
@@ -29,7 +29,7 @@ pub record HasPlan (words : List (List ℕ)) (files : List NamedFile) (text : Li
   pub repo : List ℕ
   pub now : ℕ
   pub asked : IsPlan words repo now
-  pub items : List Item
+  pub items : List Group
   pub planned : IsPlanned repo now files items
   pub free : (error : RunError) → ¬ (IsPlanRefusal repo now files error)
   pub time : List ℕ

@@ -1,8 +1,8 @@
 //! The program as one call over the outside: its words, what it prints, and its statuses.
 #![tactic(auto)]
 
-mod end;
 mod plan_text;
+mod refusal;
 mod report;
 #[cfg(test)]
 mod store_tests;
@@ -11,6 +11,6 @@ mod tests;
 mod top;
 mod words;
 
-pub use end::Refusal;
+pub use refusal::Refusal;
 pub use top::{Ended, Outside, Status, renovate};
 pub use words::{Words, WordsError};

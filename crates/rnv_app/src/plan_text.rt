@@ -6,13 +6,13 @@ ghost use Rattle.rnv_app.specs.Text.{kind_word, subject, change, target, line, i
 use rnv_base::{List, UpdateKind, moment_text};
 use rnv_commands::{add, add_shown};
 use rnv_pick::Update;
-use rnv_plan::Item;
+use rnv_plan::Group;
 use std::alloc::{AllocError, Global};
 use std::convert::{AsSlice, AsStr};
 
 /// The text of a plan: the moment, a line for each update in item order, and how many there are.
 /// Only memory can fail.
-pub fn plan_text(alloc: Global, now: u64, items: &List<Item>) -> Result<Vec<u8>, AllocError>
+pub fn plan_text(alloc: Global, now: u64, items: &List<Group>) -> Result<Vec<u8>, AllocError>
     requires { IsMoment now }
     ensures { IfOk result (λ text. (time : Items ℕ) × IsMomentText time now × (text.items ≡ plan_text time items.now)) }
 {
@@ -75,7 +75,7 @@ fn add_target(out: &mut Vec<u8>, branch: &str, update: &Update) -> Result<(), Al
 }
 
 // Puts the lines of an item at the end.
-fn add_item(out: &mut Vec<u8>, item: &Item) -> Result<(), AllocError>
+fn add_item(out: &mut Vec<u8>, item: &Group) -> Result<(), AllocError>
     ensures { OnOk result (out.new.items ≡ out.old.items ++ item_lines item.now) }
 {
     for update in item.updates.as_slice() {
@@ -85,7 +85,7 @@ fn add_item(out: &mut Vec<u8>, item: &Item) -> Result<(), AllocError>
 }
 
 // Puts the lines of the items at the end.
-fn add_items(out: &mut Vec<u8>, items: &[Item]) -> Result<(), AllocError>
+fn add_items(out: &mut Vec<u8>, items: &[Group]) -> Result<(), AllocError>
     ensures { OnOk result (out.new.items ≡ out.old.items ++ flat_map item_lines items.now) }
 {
     for item in items {
@@ -95,7 +95,7 @@ fn add_items(out: &mut Vec<u8>, items: &[Item]) -> Result<(), AllocError>
 }
 
 // How many updates there are. More than a number holds are more than memory does.
-fn count(items: &[Item]) -> Result<usize, AllocError>
+fn count(items: &[Group]) -> Result<usize, AllocError>
     ensures { IfOk result (λ n. n ≡ count items.now) }
 {
     let mut count = 0usize;
@@ -106,7 +106,7 @@ fn count(items: &[Item]) -> Result<usize, AllocError>
 }
 
 // Puts the last line at the end.
-fn add_summary(alloc: Global, out: &mut Vec<u8>, items: &[Item]) -> Result<(), AllocError>
+fn add_summary(alloc: Global, out: &mut Vec<u8>, items: &[Group]) -> Result<(), AllocError>
     ensures { OnOk result (out.new.items ≡ out.old.items ++ summary items.now) }
 {
     let updates = count(items)?;

@@ -1,9 +1,9 @@
 ghost use Rattle.std.specs.Prelude.{◌≡◌, ◌≤◌, ◌++◌, ◌∷◌, ℕ, [], codes};
 ghost use Rattle.std.specs.Fmt.{decimal};
-ghost use Rattle.rnv_app.specs.End.{IsLine, IsTold, above_text, damaged_text, index_text, not_built_text, refusal_text};
+ghost use Rattle.rnv_app.specs.Refusals.{IsLine, IsTold, above_text, damaged_text, index_text, not_built_text, refusal_text};
 
 use crate::Refusal;
-use crate::end::code;
+use crate::refusal::code;
 use itoa::Buffer;
 use rnv_base::{List, Sink, write_all};
 use std::convert::{AsSlice, AsStr};

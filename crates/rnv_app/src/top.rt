@@ -1,11 +1,11 @@
 ghost use Rattle.std.specs.Prelude.{◌≡◌, ◌↔◌, ◌⊎◌, ◌≤◌, ℕ, List as Items, Result, IfOk, IfErr, IfSome};
 ghost use Rattle.rnv_base.specs.Causes.{Rose, FaultsBy};
 ghost use Rattle.rnv_base.specs.Files.{NamedFile};
-ghost use Rattle.rnv_app.specs.End.{line_of, status_of, IsCause, IsCauseOr, IsLine, IsStatus, IsTold};
+ghost use Rattle.rnv_app.specs.Refusals.{line_of, status_of, IsCause, IsCauseOr, IsLine, IsStatus, IsTold};
 ghost use Rattle.rnv_app.specs.Top.{refusing, HasNoImport, HasNoPlan, HasPlan, IsAnswered, IsDamagedOr, IsForImport, IsForRun, IsForShow, IsFree, IsFreeImport, IsFreeRun, IsFreeShow, IsImportCauseOr, IsImportEnd, IsLeftAlone, IsNamed, IsOfPlan, IsPrinted, IsPrintedInPart, IsRefusedWith, IsRunCauseOr, IsRunEnd, IsShowEnd, IsUnknownOr, LeavesNoStore, Tells, running};
 ghost use Rattle.rnv_app.specs.Words.{IsImport, IsOfStore, IsPlan, IsRun, IsShow, IsUsage};
-ghost use Rattle.rnv_app.specs.declared.end.Refusal.{Refusal as Cause};
-ghost use Rattle.rnv_app.specs.declared.end.Refusal.TheVariants.{DiskFault as disk_fault, FolderFault as folder_fault, Memory as no_memory};
+ghost use Rattle.rnv_app.specs.declared.refusal.Refusal.{Refusal as Cause};
+ghost use Rattle.rnv_app.specs.declared.refusal.Refusal.TheVariants.{DiskFault as disk_fault, FolderFault as folder_fault, Memory as no_memory};
 ghost use Rattle.rnv_commands.specs.declared.error.CommandError.{CommandError as StoreError};
 ghost use Rattle.rnv_commands.specs.OnDisk.{IsDamaged, IsUnknownIn};
 ghost use Rattle.rnv_journal.specs.Readings.{KeepsOne};
@@ -13,14 +13,14 @@ ghost use Rattle.rnv_plan.specs.declared.error.RunError.{RunError as Error};
 ghost use Rattle.rnv_plan.specs.Plan.{IsPlanned, IsPlanRefusal};
 ghost use Rattle.rnv_run.specs.OnDisk.{IsRefusedIn};
 
-use crate::end::{plan_refusal_of, refusal_of, run_refusal_of};
 use crate::plan_text::plan_text;
+use crate::refusal::{plan_refusal_of, refusal_of, run_refusal_of};
 use crate::report::tell;
 use crate::{Refusal, Words, WordsError};
 use rnv_base::{Folder, List, Sink, Text};
 use rnv_commands::{Answer, CommandError, import_on, show_on};
 use rnv_disk::Disk;
-use rnv_plan::{Item, plan_folder};
+use rnv_plan::{Group, plan_folder};
 use rnv_run::{RunAnswer, RunRefusal, run_on};
 use std::alloc::Global;
 use std::convert::AsStr;
@@ -302,7 +302,7 @@ fn text_for(
     words: &List<Text>,
     repo: &str,
     now: u64,
-    items: &List<Item>,
+    items: &List<Group>,
 ) -> Result<List<u8>, Refusal>
     requires { IsPlan words.now repo.now now }
     ensures plan { (files : Items NamedFile) → IsPlanned repo.now now files items.now → ((error : Error) → ¬ IsPlanRefusal repo.now now files error) → IfOk result (HasPlan words.now files) }

@@ -1,10 +1,10 @@
 //! The checked-out files of a repository, as the operator's folder has them.
 #![tactic(auto)]
 
+mod base_of;
 mod error;
 mod gathered;
-mod judging;
-mod keeping;
+mod kept;
 mod reading;
 #[cfg(test)]
 mod tests;

@@ -8,9 +8,9 @@ ghost use Rattle.rnv_checkout.specs.Gathered.{IsGathered};
 ghost use Rattle.rnv_checkout.specs.Refusal.{IsPlain, IsRefusal};
 ghost use Rattle.rnv_checkout.specs.declared.error.BaseError.TheVariants.{FolderFault as fault};
 
+use crate::base_of::judged;
 use crate::gathered::Gathered;
-use crate::judging::judged;
-use crate::keeping::{are_kept_bytes, is_kept_path};
+use crate::kept::{are_kept_bytes, is_kept_path};
 use crate::{BaseError, FolderBase};
 use rnv_base::{Folder, FolderError, List, Text};
 use rnv_repo::EditedFile;

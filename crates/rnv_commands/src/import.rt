@@ -20,8 +20,8 @@ use crate::difference::changes_of;
 use crate::printing::{add, add_number_after};
 use rnv_base::{Folder, List, Share, Text};
 use rnv_checkout::{BaseError, FolderBase, read_base};
-use rnv_repo::{FileAt, FileChange, Repo, Write};
 use rnv_forge::{Forge, ForgePrepareError, WriteError};
+use rnv_repo::{FileAt, FileChange, Repo, Write};
 use std::alloc::{AllocError, Global};
 use std::convert::{AsSlice, AsStr};
 

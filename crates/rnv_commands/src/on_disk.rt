@@ -13,8 +13,8 @@ ghost use Rattle.rnv_forge.specs.Forge.{LeavesWrites};
 use crate::{CommandError, import_base, show_repo};
 use rnv_base::{Folder, List, Text};
 use rnv_disk::Disk;
-use rnv_journal::StartError;
 use rnv_forge::{Forge, JournalForge, StartRefused};
+use rnv_journal::StartError;
 use std::alloc::Global;
 
 /// What a command over a disk answers, the text that it prints or why there is none, and the disk as

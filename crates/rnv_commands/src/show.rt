@@ -6,8 +6,8 @@ ghost use Rattle.rnv_repo.specs.Store.{after};
 use crate::CommandError;
 use crate::printing::{add, add_number_after, add_text_after};
 use rnv_base::{List, Text};
-use rnv_repo::{Branch, Repo, Request, RequestState};
 use rnv_forge::Forge;
+use rnv_repo::{Branch, Repo, Request, RequestState};
 use std::alloc::{AllocError, Global};
 use std::convert::{AsSlice, AsStr};
 

@@ -24,8 +24,8 @@ use crate::stored::{CheckError, StoredError, Tried, checked, stored};
 use crate::{Forge, ForgePrepareError, WriteError};
 use rnv_base::{Bytes, List, Text};
 use rnv_disk::Disk;
-use rnv_repo::{Repo, Write};
 use rnv_journal::{AppendError, Journal, PrepareError, StartError};
+use rnv_repo::{Repo, Write};
 use std::alloc::{AllocError, Global};
 use std::convert::AsSlice;
 

@@ -21,12 +21,12 @@ use Rattle.rnv_plan.specs.declared.error.RunError.{RunError}
 use Rattle.rnv_plan.specs.declared.error.RunError.TheVariants.{Limit}
 use Rattle.rnv_plan.specs.declared.inputs.PickedFile.{PickedFile}
 use Rattle.rnv_plan.specs.declared.inputs.Planned.{Planned}
-use Rattle.rnv_plan.specs.declared.item.Item.{Item}
+use Rattle.rnv_plan.specs.declared.group.Group.{Group}
 use Rattle.rnv_plan.specs.declared.taken.TakenFile.{TakenFile}
 use Rattle.rnv_plan.specs.Gather.{IsGathered, ArePicked, releases_for}
 use Rattle.rnv_plan.specs.Kept.{kept_updates}
 use Rattle.rnv_plan.specs.Refusal.{IsRefusal}
-use Rattle.rnv_plan.specs.Plan.{unchanged, IsFolderBase, IsGatheredOf, IsFolderRefusal, large, unknown, of_files, AreFewItems, HaveManyItems, IsPlanned, IsPlanRefusal, not_gathered, many_items}
+use Rattle.rnv_plan.specs.Plan.{unchanged, IsFolderBase, IsGatheredOf, IsFolderRefusal, large, unknown, of_files, AreFewGroups, HaveManyGroups, IsPlanned, IsPlanRefusal, not_gathered, many_items}
 use Rattle.rnv_plan.proofs.OneList.{items_are_unique}
 use Rattle.rnv_plan.proofs.Picks.{picked-one}
 use Rattle.rnv_plan.proofs.Refused.{gathered-fine, refusal-one}
@@ -115,15 +115,15 @@ module _ (repo : List ℕ) (files : List NamedFile) where
   gathered-one : (moment : ℕ) (p q : Planned) → IsGatheredOf repo moment files p → IsGatheredOf repo moment files q → p.inputs.picked ≡ q.inputs.picked
   gathered-one moment p q a b = picked-of q.files p.inputs.picked q.inputs.picked (subst (λ (fs : List MarkedFile). IsGathered files fs p.inputs.picked) (base-one repo files p.files q.files a.base b.base) a.gathered) b.gathered
 
-  few-many : (updates : List Update) (items : List Item) (e : RunError) → AreFewItems updates items → ¬ (HaveManyItems updates e)
+  few-many : (updates : List Update) (items : List Group) (e : RunError) → AreFewGroups updates items → ¬ (HaveManyGroups updates e)
   few-many updates items e few many =
       let same = ap length (items_are_unique updates items many.items few.are_items many.are_items) in
       omega (arith, same, few.few, many.many)
 
-  pub plan-fine : (moment : ℕ) (items : List Item) → IsPlanned repo moment files items → (e : RunError) → ¬ (IsPlanRefusal repo moment files e)
+  pub plan-fine : (moment : ℕ) (items : List Group) → IsPlanned repo moment files items → (e : RunError) → ¬ (IsPlanRefusal repo moment files e)
   plan-fine moment items p e (not_gathered refused) = folder-fine moment p.planned p.gathered e refused
   plan-fine moment items p e (many_items planned gathered many) =
-      few-many (kept_updates planned.inputs.picked) items e (subst (λ (ps : List PickedFile). AreFewItems (kept_updates ps) items) (gathered-one moment p.planned planned p.gathered gathered) p.few) many
+      few-many (kept_updates planned.inputs.picked) items e (subst (λ (ps : List PickedFile). AreFewGroups (kept_updates ps) items) (gathered-one moment p.planned planned p.gathered gathered) p.few) many
 
   pub plan-one : (moment : ℕ) (e f : RunError) → IsPlanRefusal repo moment files e → IsPlanRefusal repo moment files f → e ≡ f
   plan-one moment e f (not_gathered a) (not_gathered b) = folder-one e f a b

@@ -22,8 +22,8 @@ use Rattle.std.proofs.lemmas.Map.Keys.{IsDistinct-from_sorted, IsDistinct-IsPerm
 use Rattle.std.proofs.lemmas.Option.{slice_get-get_or, get_or_from_slice_get, slice_get_within}
 use Rattle.rnv_pick.specs.declared.update.Update.{Update}
 use Rattle.rnv_base.specs.Kinds.{rank}
-use Rattle.rnv_plan.specs.declared.item.Item.{Item}
-use Rattle.rnv_plan.specs.Items.{branch_name, is_on, item_cmp, IsItem, AreItems}
+use Rattle.rnv_plan.specs.declared.group.Group.{Group}
+use Rattle.rnv_plan.specs.Items.{branch_name, is_on, item_cmp, IsGroup, AreGroups}
 use Rattle.rnv_plan.specs.Groups.{not_empty, group_of, item_of}
 use Rattle.rnv_plan.proofs.Grouped.{equal, on_own}
 use Rattle.rnv_plan.proofs.GreatestKind.{is_greatest_kind}
@@ -47,13 +47,13 @@ some-has : (us vs : List Update) → not_empty us ≡ Some vs → vs ≢ []
 some-has [] vs is = cc is
 some-has (u ∷ us) vs is = λ none. cc (is, none)
 
-is-item : (updates : List Update) (branch : List ℕ) (us : List Update) → group_of branch updates ≡ Some us → IsItem updates (item_of (branch, us))
+is-item : (updates : List Update) (branch : List ℕ) (us : List Update) → group_of branch updates ≡ Some us → IsGroup updates (item_of (branch, us))
 is-item updates branch us group =
     let some = some-has (filter (is_on branch) updates) us group in
     record { some = some; all = some-is (filter (is_on branch) updates) us group; greatest = is_greatest_kind us some; priority = refl }
 
-each : (updates : List Update) (groups : Groups) → IsOrdered name_cmp groups → Holds updates groups → All (IsItem updates) (map item_of groups.entries)
-each updates groups ordered holds = All-map (IsItem updates) item_of groups.entries (λ i d within.
+each : (updates : List Update) (groups : Groups) → IsOrdered name_cmp groups → Holds updates groups → All (IsGroup updates) (map item_of groups.entries)
+each updates groups ordered holds = All-map (IsGroup updates) item_of groups.entries (λ i d within.
     let e = get_or groups.entries i d in
     let found = btree_map_get_place nat_list_cmp_total groups i e.0 e.1 ordered (slice_get-get_or groups.entries i d within) in
     is-item updates e.0 e.1 (sym (holds e.0) ∙ found))
@@ -73,7 +73,7 @@ has-item updates groups holds i d within =
     let u = get_or updates i d in let q = branch_name u in
     let some = kept (is_on q) updates i d within (on_own u) in
     let place = place_from_lookup (is_at (name_cmp q)) groups.entries some.0 (holds q ∙ some.1) in
-    let item : Item = item_of (place.1, some.0) in
+    let item : Group = item_of (place.1, some.0) in
     let inside : place.0 < length groups.entries = slice_get_within groups.entries place.0 (place.1, some.0) place.2 in
     let there : get_or (map item_of groups.entries) place.0 item ≡ item =
     get_or-map item_of groups.entries place.0 (place.1, some.0) ∙ ap item_of (get_or_from_slice_get groups.entries place.0 (place.1, some.0) (place.1, some.0) place.2) in
@@ -92,23 +92,23 @@ turned Equal p is not unequal = cc (is, unequal)
 turned Greater p is not unequal = is
 
 pub item-total : IsTotalOrder item_cmp
-item-total = then_total (then_total (on_total (λ (i : Item). i.priority) (back_total int_cmp_total)) (on_total (λ (i : Item). rank i.kind) nat_cmp_total)) (on_total (λ (i : Item). i.branch) nat_list_cmp_total)
+item-total = then_total (then_total (on_total (λ (i : Group). i.priority) (back_total int_cmp_total)) (on_total (λ (i : Group). rank i.kind) nat_cmp_total)) (on_total (λ (i : Group). i.branch) nat_list_cmp_total)
 
-names : (es : List (List ℕ × List Update)) → map (λ (item : Item). item.branch) (map item_of es) ≡ keys_of es
+names : (es : List (List ℕ × List Update)) → map (λ (item : Group). item.branch) (map item_of es) ≡ keys_of es
 names [] = refl
 names (e ∷ es) = ap (λ rest. e.0 ∷ rest) (names es)
 
-distinct : (groups : Groups) (items : List Item) → IsOrdered name_cmp groups → IsPermutation (map item_of groups.entries) items → IsDistinct (eq_by_cmp name_cmp) (map (λ (item : Item). item.branch) items)
+distinct : (groups : Groups) (items : List Group) → IsOrdered name_cmp groups → IsPermutation (map item_of groups.entries) items → IsDistinct (eq_by_cmp name_cmp) (map (λ (item : Group). item.branch) items)
 distinct groups items ordered moved =
-    let branch : Item → List ℕ = λ item. item.branch in let E = eq_by_cmp name_cmp in
+    let branch : Group → List ℕ = λ item. item.branch in let E = eq_by_cmp name_cmp in
     let before : IsDistinct E (map branch (map item_of groups.entries)) = subst (IsDistinct E) (sym (names groups.entries)) (IsDistinct-from_sorted name_cmp (keys groups) ordered) in
     IsDistinct-IsPermutation E (eq_by_cmp_equiv nat_list_cmp_total).symm _ _ (IsPermutation-map branch (map item_of groups.entries) items moved) before
 
-rising : (items : List Item) → IsDistinct (eq_by_cmp name_cmp) (map (λ (item : Item). item.branch) items) → IsSorted item_cmp items → IsStrictlySortedBy item_cmp items
+rising : (items : List Group) → IsDistinct (eq_by_cmp name_cmp) (map (λ (item : Group). item.branch) items) → IsSorted item_cmp items → IsStrictlySortedBy item_cmp items
 unfolding IsStrictlySortedBy
 rising [] apart sorted = tt
 rising (x ∷ xs) apart sorted =
-    let branch : Item → List ℕ = λ item. item.branch in
+    let branch : Group → List ℕ = λ item. item.branch in
     sorted_from_all_adjacent item-total (x ∷ xs) x (λ k below.
     let a = get_or (x ∷ xs) k x in let b = get_or (x ∷ xs) (k + 1) x in
     let unequal : is_eq (name_cmp a.branch b.branch) ≡ false =
@@ -116,10 +116,10 @@ rising (x ∷ xs) apart sorted =
     (apart_from_distinct (eq_by_cmp name_cmp) (map branch (x ∷ xs)) k (k + 1) x.branch apart (omega arith) (omega (arith, length-map (x ∷ xs) branch))) in
     turned (item_cmp b a) (item_cmp a b) (item-total.antisymm a b) (sorted k x (omega arith) below) (then-unequal _ _ unequal))
 
-pub are_items : (updates : List Update) (groups : Groups) (items : List Item) → IsOrdered name_cmp groups → Holds updates groups → IsPermutation (map item_of groups.entries) items → IsSorted item_cmp items → AreItems updates items
+pub are_items : (updates : List Update) (groups : Groups) (items : List Group) → IsOrdered name_cmp groups → Holds updates groups → IsPermutation (map item_of groups.entries) items → IsSorted item_cmp items → AreGroups updates items
 are_items updates groups items ordered holds moved sorted = record {
   rising = rising items (distinct groups items ordered moved) sorted;
-  each = All-permutation (IsItem updates) (map item_of groups.entries) items moved (each updates groups ordered holds);
+  each = All-permutation (IsGroup updates) (map item_of groups.entries) items moved (each updates groups ordered holds);
   every = λ i d within.
       let found = has-item updates groups holds i d within in
       let moved_too = Contains-permutation (map item_of groups.entries) items found.1 moved (found.0, found.2, found.3) in

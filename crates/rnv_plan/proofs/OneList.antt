@@ -13,9 +13,9 @@ use Rattle.std.proofs.lemmas.List.Elements.{All-contains, All-from_recursion}
 use Rattle.std.proofs.lemmas.Map.Keys.{sorted_head, sorted_tail}
 use Rattle.rnv_base.specs.declared.kinds.UpdateKind.{UpdateKind}
 use Rattle.rnv_pick.specs.declared.update.Update.{Update}
-use Rattle.rnv_plan.specs.declared.item.Item.{Item}
-use Rattle.rnv_plan.specs.Items.{branch_name, is_on, priority_of, item_cmp, IsItem, AreItems}
-use Rattle.rnv_plan.specs.Laws.{ItemsAreUnique}
+use Rattle.rnv_plan.specs.declared.group.Group.{Group}
+use Rattle.rnv_plan.specs.Items.{branch_name, is_on, priority_of, item_cmp, IsGroup, AreGroups}
+use Rattle.rnv_plan.specs.Laws.{GroupsAreUnique}
 use Rattle.rnv_plan.proofs.GreatestKind.{one_greatest_kind}
 use Rattle.rnv_plan.proofs.Grouped.{same_name}
 use Rattle.rnv_plan.proofs.Listed.{item-total}
@@ -72,10 +72,10 @@ one-list R o (x ∷ xs) (y ∷ ys) left right there back =
 
 -- ---- items of one branch
 
-same-parts : (n m : List ℕ) (k l : UpdateKind) (p q : ℤ) (us vs : List Update) → n ≡ m → k ≡ l → p ≡ q → us ≡ vs → ◌≡◌ {A = Item} (record { branch = n; kind = k; priority = p; updates = us }) (record { branch = m; kind = l; priority = q; updates = vs })
+same-parts : (n m : List ℕ) (k l : UpdateKind) (p q : ℤ) (us vs : List Update) → n ≡ m → k ≡ l → p ≡ q → us ≡ vs → ◌≡◌ {A = Group} (record { branch = n; kind = k; priority = p; updates = us }) (record { branch = m; kind = l; priority = q; updates = vs })
 same-parts n m k l p q us vs branches kinds priorities lists = cc
 
-pub one-item : (updates : List Update) (a b : Item) → IsItem updates a → IsItem updates b → a.branch ≡ b.branch → a ≡ b
+pub one-item : (updates : List Update) (a b : Group) → IsGroup updates a → IsGroup updates b → a.branch ≡ b.branch → a ≡ b
 one-item updates a b left right branches =
     let lists : a.updates ≡ b.updates = left.all ∙ ap (λ q. filter (is_on q) updates) branches ∙ sym right.all in
     let kinds : a.kind ≡ b.kind = one_greatest_kind a.updates a.kind b.kind left.greatest (rw lists right.greatest) in
@@ -91,17 +91,17 @@ some-update p (u ∷ us) some = elim (cases_Bool (p u)) [
       (rest.0, later u us rest.0 rest.1, rest.2)
 ]
 
-among : (updates : List Update) (xs ys : List Item) → AreItems updates xs → AreItems updates ys → Within xs ys
+among : (updates : List Update) (xs ys : List Group) → AreGroups updates xs → AreGroups updates ys → Within xs ys
 among updates xs ys left right a there =
-    let item = All-contains (IsItem updates) xs a left.each there in
+    let item = All-contains (IsGroup updates) xs a left.each there in
     let some = some-update (is_on a.branch) updates (λ none. item.some (item.all ∙ none)) in
     let u = some.0 in
     let found = All-contains (λ v. Any (λ i. i.branch ≡ branch_name v) ys) updates u right.every some.1 in
     let b = found.1 in
     let there_too : Contains ys b = (found.0, found.2, found.3) in
-    let same : b ≡ a = one-item updates b a (All-contains (IsItem updates) ys b right.each there_too) item (found.4 ∙ same_name (branch_name u) a.branch some.2) in
+    let same : b ≡ a = one-item updates b a (All-contains (IsGroup updates) ys b right.each there_too) item (found.4 ∙ same_name (branch_name u) a.branch some.2) in
     subst (Contains ys) same there_too
 
-pub items_are_unique : ItemsAreUnique
+pub items_are_unique : GroupsAreUnique
 items_are_unique updates xs ys left right =
     one-list item_cmp item-total xs ys left.rising right.rising (among updates xs ys left right) (among updates ys xs right left)

@@ -4,7 +4,7 @@ use Rattle.rnv_base.specs.Kinds.{rank}
 use Rattle.rnv_base.specs.declared.kinds.UpdateKind.{UpdateKind}
 use Rattle.rnv_base.specs.declared.kinds.UpdateKind.TheVariants as kind
 use Rattle.rnv_pick.specs.declared.update.Update.{Update}
-use Rattle.rnv_plan.specs.declared.item.Item.{Item}
+use Rattle.rnv_plan.specs.declared.group.Group.{Group}
 use Rattle.rnv_plan.specs.declared.named.NamedUpdate.{NamedUpdate}
 use Rattle.rnv_plan.specs.Items.{is_on, priority_of}
 use Rattle.rnv_plan.specs.Named.{is_named}
@@ -30,5 +30,5 @@ abbrev pub greatest_kind : List Update → UpdateKind
 greatest_kind updates = fold (λ kind u. higher kind u.kind) kind.Pin updates
 
 -- the item of a branch and its updates
-abbrev pub item_of : List ℕ × List Update → Item
+abbrev pub item_of : List ℕ × List Update → Group
 item_of e = record { branch = e.0; kind = greatest_kind e.1; priority = priority_of e.1; updates = e.1 }

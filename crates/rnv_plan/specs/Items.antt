@@ -13,7 +13,7 @@ use Rattle.rnv_npm.specs.Version.{npm_version}
 use Rattle.rnv_version.specs.Cargo.{cargo_version}
 use Rattle.rnv_version.specs.Docker.{docker_tag}
 use Rattle.rnv_pick.specs.declared.update.Update.{Update}
-use Rattle.rnv_plan.specs.declared.item.Item.{Item}
+use Rattle.rnv_plan.specs.declared.group.Group.{Group}
 use Rattle.rnv_plan.specs.Branch.{branch_of}
 
 -- the first number of a version of the source, 0 for a text that is none
@@ -40,18 +40,18 @@ priority_of updates = pos 0
 
 -- the item of a branch: all its updates in their order, at least one, and the greatest of their kinds and of their
 -- priorities
-pub record IsItem (updates : List Update) (item : Item) : Type 0 where
+pub record IsGroup (updates : List Update) (item : Group) : Type 0 where
   pub some : item.updates ≢ []
   pub all : item.updates ≡ filter (is_on item.branch) updates
   pub greatest : IsGreatestKind item.kind item.updates
   pub priority : item.priority ≡ priority_of item.updates
 
 -- item order: by priority, the highest first, then by kind, then by name
-abbrev pub item_cmp : Item → Item → Ordering
+abbrev pub item_cmp : Group → Group → Ordering
 item_cmp = then_cmp (then_cmp (on (λ i. i.priority) (flip_args int_cmp)) (on (λ i. rank i.kind) nat_cmp)) (on (λ i. i.branch) (slice_cmp nat_cmp))
 
 -- the items of a list of updates, in item order
-pub record AreItems (updates : List Update) (items : List Item) : Type 0 where
+pub record AreGroups (updates : List Update) (items : List Group) : Type 0 where
   pub rising : IsStrictlySortedBy item_cmp items
-  pub each : All (IsItem updates) items
+  pub each : All (IsGroup updates) items
   pub every : All (λ u. Any (λ i. i.branch ≡ branch_name u) items) updates

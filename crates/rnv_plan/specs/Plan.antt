@@ -9,11 +9,11 @@ use Rattle.rnv_pick.specs.declared.update.Update.{Update}
 use Rattle.rnv_plan.specs.declared.error.RunError.{RunError}
 use Rattle.rnv_plan.specs.declared.error.RunError.TheVariants.{UnknownRepo, Limit}
 use Rattle.rnv_plan.specs.declared.inputs.Planned.{Planned}
-use Rattle.rnv_plan.specs.declared.item.Item.{Item}
+use Rattle.rnv_plan.specs.declared.group.Group.{Group}
 use Rattle.rnv_plan.specs.Gather.{IsGathered}
 use Rattle.rnv_plan.specs.Kept.{kept_updates}
 use Rattle.rnv_plan.specs.Refusal.{IsRefusal}
-use Rattle.rnv_plan.specs.Items.{AreItems}
+use Rattle.rnv_plan.specs.Items.{AreGroups}
 
 -- a file that was never changed
 abbrev pub unchanged : NamedFile → MarkedFile
@@ -42,24 +42,24 @@ pub data IsFolderRefusal (repo : List ℕ) (files : List NamedFile) (error : Run
 -- ---- its items
 
 -- these are the items of the updates, at most 5,000
-pub record AreFewItems (updates : List Update) (items : List Item) : Type 0 where
-  pub are_items : AreItems updates items
+pub record AreFewGroups (updates : List Update) (items : List Group) : Type 0 where
+  pub are_items : AreGroups updates items
   pub few : length items ≤ 5000
 
 -- the items of the updates are more than 5,000
-pub record HaveManyItems (updates : List Update) (error : RunError) : Type 0 where
-  pub items : List Item
-  pub are_items : AreItems updates items
+pub record HaveManyGroups (updates : List Update) (error : RunError) : Type 0 where
+  pub items : List Group
+  pub are_items : AreGroups updates items
   pub many : 5000 < length items
   pub same : error ≡ Limit (codes "items") 5000
 
 -- the items that the folder gives for the repository at a moment
-pub record IsPlanned (repo : List ℕ) (moment : ℕ) (files : List NamedFile) (items : List Item) : Type 0 where
+pub record IsPlanned (repo : List ℕ) (moment : ℕ) (files : List NamedFile) (items : List Group) : Type 0 where
   pub planned : Planned
   pub gathered : IsGatheredOf repo moment files planned
-  pub few : AreFewItems (kept_updates planned.inputs.picked) items
+  pub few : AreFewGroups (kept_updates planned.inputs.picked) items
 
 -- why it gives none
 pub data IsPlanRefusal (repo : List ℕ) (moment : ℕ) (files : List NamedFile) (error : RunError) : Type 0 where
   not_gathered : IsFolderRefusal repo files error → IsPlanRefusal repo moment files error
-  many_items : (planned : Planned) → IsGatheredOf repo moment files planned → HaveManyItems (kept_updates planned.inputs.picked) error → IsPlanRefusal repo moment files error
+  many_items : (planned : Planned) → IsGatheredOf repo moment files planned → HaveManyGroups (kept_updates planned.inputs.picked) error → IsPlanRefusal repo moment files error

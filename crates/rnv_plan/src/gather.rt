@@ -11,8 +11,8 @@ ghost use Rattle.rnv_plan.specs.Gather.{releases_for, IsSound, ArePicked, AreBui
 ghost use Rattle.rnv_plan.specs.Refusal.{IfTold, HasUnsound, IsRefusal};
 ghost use Rattle.rnv_plan.specs.Plan.{unchanged, IsFolderBase, IsFolderRefusal, IsGatheredOf};
 
-use crate::building::built;
 use crate::indexes::read_indexes;
+use crate::not_built::built;
 use crate::picking::pick_files;
 use crate::taken::TakenFile;
 use crate::{Inputs, PickedFile, Planned, RunError};

@@ -3,12 +3,12 @@ ghost use Rattle.std.specs.Cmp.Lexicographic.{slice_cmp};
 ghost use Rattle.std.specs.Ordering.{nat_cmp};
 ghost use Rattle.std.specs.BTreeMap.{get, IsOrdered};
 ghost use Rattle.rnv_pick.specs.declared.update.Update.{Update as Of};
-ghost use Rattle.rnv_plan.specs.Items.{AreItems, item_cmp};
-ghost use Rattle.rnv_plan.specs.Laws.{ItemsAreUnique};
+ghost use Rattle.rnv_plan.specs.Items.{AreGroups, item_cmp};
+ghost use Rattle.rnv_plan.specs.Laws.{GroupsAreUnique};
 ghost use Rattle.rnv_plan.specs.Groups.{group_in, greatest_kind, item_of};
 ghost use Rattle.rnv_plan.specs.Named.{with_name};
 
-use crate::Item;
+use crate::Group;
 use crate::named::NamedUpdate;
 use rnv_base::{List, Text, UpdateKind};
 use rnv_pick::Update;
@@ -23,8 +23,8 @@ type Branches = BTreeMap<Text, List<Update>>;
 /// The items of updates, of which these are with the names of their branches, in item order: the priority
 /// falling, then the kind rising, then the branch's name by its bytes. Each branch has one item, with all its
 /// updates in their order. A version that cannot be read counts as major version 0. Only memory can fail.
-pub fn items(alloc: Global, named: List<NamedUpdate>) -> Result<List<Item>, AllocError>
-    ensures { (updates : List Of) → named ≡ map with_name updates → IfOk result (AreItems updates) }
+pub fn items(alloc: Global, named: List<NamedUpdate>) -> Result<List<Group>, AllocError>
+    ensures { (updates : List Of) → named ≡ map with_name updates → IfOk result (AreGroups updates) }
 {
     let branches = by_branch(alloc, named)?;
     let mut items = listed(alloc, branches)?;
@@ -47,14 +47,14 @@ fn by_branch(alloc: Global, named: List<NamedUpdate>) -> Result<Branches, AllocE
 }
 
 // The items of branches, by name.
-fn listed(alloc: Global, branches: Branches) -> Result<Vec<Item>, AllocError>
+fn listed(alloc: Global, branches: Branches) -> Result<Vec<Group>, AllocError>
     ensures items { IfOk result (λ items. items.items ≡ map item_of branches.entries) }
     ensures ordered { IsOrdered (slice_cmp nat_cmp) branches }
 {
     let mut items = Vec::new(alloc);
     for (branch, updates) in branches {
         let kind = greatest_kind(updates.as_slice());
-        items.push(Item {
+        items.push(Group {
             branch,
             kind,
             priority: 0,
@@ -75,8 +75,8 @@ fn greatest_kind(updates: &[Update]) -> UpdateKind
     kind
 }
 
-// Item order.
-pub(crate) fn item_order(a: &Item, b: &Item) -> Ordering
+// Group order.
+pub(crate) fn item_order(a: &Group, b: &Group) -> Ordering
     ensures { result ≡ item_cmp a.now b.now }
 {
     b.priority
@@ -87,5 +87,5 @@ pub(crate) fn item_order(a: &Item, b: &Item) -> Ordering
 
 /// Does nothing: its promise is the law that a list of updates has one list of items at most.
 pub fn one_order()
-    ensures { ItemsAreUnique }
+    ensures { GroupsAreUnique }
 {}

@@ -1,6 +1,6 @@
 use rnv_base::{List, ManagerKind, Text};
-use rnv_repo::FileAt;
 use rnv_pick::{Dep, Update};
+use rnv_repo::FileAt;
 
 /// The updates of a dependency, in rising order of version.
 #[derive(Debug, Drop)]

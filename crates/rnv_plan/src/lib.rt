@@ -3,16 +3,16 @@
 #![tactic(auto)]
 
 mod branch;
-mod building;
 mod error;
 mod gather;
+mod group;
 mod grouping;
 mod indexes;
 mod inputs;
-mod item;
 mod kept;
 mod managers;
 mod named;
+mod not_built;
 mod picking;
 mod planning;
 mod taken;
@@ -22,9 +22,9 @@ mod tests;
 pub use branch::branch_name;
 pub use error::RunError;
 pub use gather::{gather_base, gather_folder};
+pub use group::Group;
 pub use grouping::{items, one_order};
 pub use inputs::{Inputs, Picked, PickedDep, PickedFile, Planned};
-pub use item::Item;
 pub use kept::kept_files;
 pub use named::{KeptDep, KeptFile, NamedUpdate};
 pub use planning::{few_items, one_refusal, plan_folder};

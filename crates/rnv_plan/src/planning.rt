@@ -4,14 +4,14 @@ ghost use Rattle.rnv_plan.specs.declared.error.RunError.{RunError as Error};
 ghost use Rattle.rnv_plan.specs.declared.inputs.PickedFile.{PickedFile as OfFile};
 ghost use Rattle.rnv_plan.specs.Kept.{kept_updates};
 ghost use Rattle.rnv_plan.specs.Named.{kept_file};
-ghost use Rattle.rnv_plan.specs.Items.{AreItems};
+ghost use Rattle.rnv_plan.specs.Items.{AreGroups};
 ghost use Rattle.rnv_plan.specs.Refusal.{IfTold};
 ghost use Rattle.rnv_plan.specs.Laws.{RefusalsAreOne};
-ghost use Rattle.rnv_plan.specs.Plan.{AreFewItems, HaveManyItems, IsPlanned, IsPlanRefusal};
+ghost use Rattle.rnv_plan.specs.Plan.{AreFewGroups, HaveManyGroups, IsPlanned, IsPlanRefusal};
 
 use crate::error::limit;
 use crate::kept::all_named;
-use crate::{Item, KeptFile, PickedFile, RunError, gather_folder, items, kept_files};
+use crate::{Group, KeptFile, PickedFile, RunError, gather_folder, items, kept_files};
 use rnv_base::{Folder, List};
 use std::alloc::{AllocError, Global};
 use std::convert::AsSlice;
@@ -20,8 +20,8 @@ use std::convert::AsSlice;
 const MOST: usize = 5_000;
 
 // The items of the updates that stay. Only memory can fail.
-fn kept_items(alloc: Global, kept: List<KeptFile>) -> Result<List<Item>, AllocError>
-    ensures { (picked : Items OfFile) → kept ≡ map kept_file picked → IfOk result (AreItems (kept_updates picked)) }
+fn kept_items(alloc: Global, kept: List<KeptFile>) -> Result<List<Group>, AllocError>
+    ensures { (picked : Items OfFile) → kept ≡ map kept_file picked → IfOk result (AreGroups (kept_updates picked)) }
 {
     let named = all_named(alloc, kept)?;
     items(alloc, named)
@@ -29,9 +29,9 @@ fn kept_items(alloc: Global, kept: List<KeptFile>) -> Result<List<Item>, AllocEr
 
 /// The items of what is picked, of which these are the updates that stay, as `items` gives them. `Limit`
 /// of the items exactly where they are more than 5,000. Else only memory can fail.
-pub fn few_items(alloc: Global, kept: List<KeptFile>) -> Result<List<Item>, RunError>
-    ensures few { (picked : Items OfFile) → kept ≡ map kept_file picked → IfOk result (AreFewItems (kept_updates picked)) }
-    ensures many { (picked : Items OfFile) → kept ≡ map kept_file picked → IfErr result (IfTold (HaveManyItems (kept_updates picked))) }
+pub fn few_items(alloc: Global, kept: List<KeptFile>) -> Result<List<Group>, RunError>
+    ensures few { (picked : Items OfFile) → kept ≡ map kept_file picked → IfOk result (AreFewGroups (kept_updates picked)) }
+    ensures many { (picked : Items OfFile) → kept ≡ map kept_file picked → IfErr result (IfTold (HaveManyGroups (kept_updates picked))) }
     ensures fault { result ≢ Err RunError.FolderFault }
     ensures disk { result ≢ Err RunError.DiskFault }
     ensures unknown { result ≢ Err RunError.UnknownRepo }
@@ -46,9 +46,9 @@ pub fn few_items(alloc: Global, kept: List<KeptFile>) -> Result<List<Item>, RunE
 }
 
 // The items of what is picked, of which there are not too many.
-fn picked_items(alloc: Global, picked: &List<PickedFile>) -> Result<List<Item>, RunError>
-    ensures few { IfOk result (AreFewItems (kept_updates picked.now)) }
-    ensures many { IfErr result (IfTold (HaveManyItems (kept_updates picked.now))) }
+fn picked_items(alloc: Global, picked: &List<PickedFile>) -> Result<List<Group>, RunError>
+    ensures few { IfOk result (AreFewGroups (kept_updates picked.now)) }
+    ensures many { IfErr result (IfTold (HaveManyGroups (kept_updates picked.now))) }
     ensures fault { result ≢ Err RunError.FolderFault }
     ensures disk { result ≢ Err RunError.DiskFault }
     ensures unknown { result ≢ Err RunError.UnknownRepo }
@@ -67,7 +67,7 @@ pub fn plan_folder<O: Folder>(
     folder: &mut O,
     repo: &str,
     moment: u64,
-) -> Result<List<Item>, RunError>
+) -> Result<List<Group>, RunError>
     ensures planned { O.tells → IfOk result (IsPlanned repo.now moment (O.files folder.old)) }
     ensures refused { O.tells → IfErr result (IfTold (IsPlanRefusal repo.now moment (O.files folder.old))) }
     ensures exactly { O.tells → OnOk result ((error : Error) → ¬ IsPlanRefusal repo.now moment (O.files folder.old) error) }

@@ -9,10 +9,10 @@ use crate::RunError;
 use crate::error::limit;
 use crate::managers::manager_of;
 use rnv_base::{List, ManagerKind, Share, Text};
-use rnv_repo::FileAt;
 use rnv_manager::{ExtractError, Found, Manager};
 use rnv_package_json::NpmManager;
 use rnv_pick::Dep;
+use rnv_repo::FileAt;
 use std::alloc::{AllocError, Global};
 use std::convert::{AsSlice, AsStr};
 

@@ -3,7 +3,7 @@ use crate::grouping::item_order;
 use crate::kept::kept;
 use crate::managers::manager_of;
 use crate::{
-    Item, NamedUpdate, RunError, branch_name, gather_base, gather_folder, items, one_order,
+    Group, NamedUpdate, RunError, branch_name, gather_base, gather_folder, items, one_order,
     one_refusal, plan_folder,
 };
 use rnv_base::{Bytes, List, ManagerKind, MemFile, MemFolder, SourceKind, Text, UpdateKind};
@@ -93,9 +93,9 @@ const ORDER: [(i64, UpdateKind, &str); 6] = [
     (-1, UpdateKind::Pin, "a"),
 ];
 
-fn item(alloc: Global, row: (i64, UpdateKind, &str)) -> Result<Item, AllocError> {
+fn item(alloc: Global, row: (i64, UpdateKind, &str)) -> Result<Group, AllocError> {
     let (priority, kind, branch) = row;
-    Ok(Item {
+    Ok(Group {
         branch: Text::copied(alloc, branch)?,
         kind,
         priority,
@@ -295,7 +295,7 @@ fn folder(alloc: Global, files: &[File], failing: &[u64]) -> Result<MemFolder, F
 }
 
 // The branch of each item, and of each of its updates the file, the value and the new value.
-fn shown(alloc: Global, items: &[Item]) -> Result<String, AllocError> {
+fn shown(alloc: Global, items: &[Group]) -> Result<String, AllocError> {
     let mut line = String::new(alloc);
     for item in items {
         line.push_str(item.branch.as_str())?;

@@ -18,7 +18,7 @@ use Rattle.rnv_journal.proofs.Uses.{one_read, wrong_reads}
 use Rattle.rnv_outcome.specs.Given.{Given}
 use Rattle.rnv_outcome.specs.Steps.{steps}
 use Rattle.rnv_spelling.specs.Spelling.{spelling}
-use Rattle.rnv_plan.specs.Plan.{HaveManyItems}
+use Rattle.rnv_plan.specs.Plan.{HaveManyGroups}
 use Rattle.rnv_plan.specs.declared.error.RunError.{RunError}
 use Rattle.rnv_plan.specs.declared.inputs.PickedFile.{PickedFile}
 use Rattle.rnv_plan.proofs.Bases.{picked-of}
@@ -58,7 +58,7 @@ base_fine : (files : List NamedFile) (base : List MarkedFile) (moment : ℕ) (g 
 base_fine files base moment g e is (not_gathered r) = gathered-fine files base is.picked (is.gathered tt) e r
 base_fine files base moment g e is (many_items picked gathered many) =
     not_many (kept_updates is.picked) is.desired.groups is.desired.few e
-    (subst (λ (ps : List PickedFile). HaveManyItems (kept_updates ps) e) (picked-of [] files base picked is.picked gathered (is.gathered tt)) many)
+    (subst (λ (ps : List PickedFile). HaveManyGroups (kept_updates ps) e) (picked-of [] files base picked is.picked gathered (is.gathered tt)) many)
 
 base_one : (files : List NamedFile) (base : List MarkedFile) (e f : RunError) → IsBaseRefusal files base e → IsBaseRefusal files base f → e ≡ f
 base_one files base e f (not_gathered a) (not_gathered b) = refusal-one files base e f a b

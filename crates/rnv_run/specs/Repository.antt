@@ -13,7 +13,7 @@ use Rattle.rnv_plan.specs.declared.inputs.PickedFile.{PickedFile}
 use Rattle.rnv_plan.specs.declared.error.RunError.{RunError}
 use Rattle.rnv_plan.specs.declared.error.RunError.TheVariants.{Memory, FolderFault, DiskFault, UnknownRepo, NotBuilt, Limit, IndexRefused}
 use Rattle.rnv_plan.specs.Gather.{IsGathered}
-use Rattle.rnv_plan.specs.Plan.{HaveManyItems}
+use Rattle.rnv_plan.specs.Plan.{HaveManyGroups}
 use Rattle.rnv_plan.specs.Refusal.{IsRefusal}
 use Rattle.rnv_forge.specs.Writes.{length_of}
 use Rattle.rnv_run.specs.Run.{LeavesOutcome}
@@ -55,7 +55,7 @@ IfCaused P (IndexRefused file line) = P (IndexRefused file line)
 -- why a base wants no items: what is gathered of it is refused, or the items are more than 5,000
 pub data IsBaseRefusal (files : List NamedFile) (base : List MarkedFile) (error : RunError) : Type 0 where
   not_gathered : IsRefusal files base error → IsBaseRefusal files base error
-  many_items : (picked : List PickedFile) → IsGathered files base picked → HaveManyItems (kept_updates picked) error → IsBaseRefusal files base error
+  many_items : (picked : List PickedFile) → IsGathered files base picked → HaveManyGroups (kept_updates picked) error → IsBaseRefusal files base error
 
 -- why nothing is written for the repository of a name, in order: there is none, its base wants no items, the journal has no room
 pub data IsRepoRefusal (files : List NamedFile) (name : List ℕ) (moment limit : ℕ) (old : List Write) (error : RunError) : Type 0 where

@@ -18,4 +18,4 @@ pub use planning::{PlannedRun, Summary, known_repo, plan_run};
 pub use printing::run_text;
 pub use repository::run_repo;
 pub use running::do_run;
-pub use writing::write_all;
+pub use writing::do_prepared;

@@ -20,9 +20,9 @@ ghost use Rattle.rnv_run.specs.Run.{IsStoppedRun};
 use crate::reporting::report_run;
 use rnv_base::{Folder, List, Text};
 use rnv_disk::Disk;
+use rnv_forge::{Forge, JournalForge, StartRefused};
 use rnv_journal::StartError;
 use rnv_plan::RunError;
-use rnv_forge::{Forge, JournalForge, StartRefused};
 use std::alloc::Global;
 
 /// Why a run over a disk printed nothing.

@@ -17,11 +17,11 @@ ghost use Rattle.rnv_run.specs.Stage.{IsPlain, given_by, plain_terms};
 
 use rnv_base::{Folder, List, Text};
 use rnv_desired::desired;
-use rnv_repo::{Repo, Write};
+use rnv_forge::Forge;
 use rnv_outcome::Item;
 use rnv_plan::{RunError, gather_base};
+use rnv_repo::{Repo, Write};
 use rnv_steps::{Terms, Written, contents, end, work};
-use rnv_forge::Forge;
 use std::alloc::{AllocError, Global};
 use std::convert::AsStr;
 

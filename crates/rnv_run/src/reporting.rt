@@ -17,8 +17,8 @@ ghost use Rattle.rnv_run.specs.Run.{IsResumed, IsStoppedRun};
 
 use crate::{do_run, plan_run, run_text};
 use rnv_base::{Folder, List, Text};
-use rnv_plan::RunError;
 use rnv_forge::Forge;
+use rnv_plan::RunError;
 use std::alloc::Global;
 
 // Runs over a repository of the forge as `run_repo` does, and answers the text of its writes. It is made

@@ -18,8 +18,8 @@ ghost use Rattle.rnv_run.specs.Run.{IsResumed, IsStoppedRun};
 
 use crate::{Summary, do_run, plan_run};
 use rnv_base::{Folder, Text};
-use rnv_plan::RunError;
 use rnv_forge::Forge;
+use rnv_plan::RunError;
 use std::alloc::Global;
 
 /// Runs over a repository of the forge at this moment, in seconds since 1970: makes its branches and

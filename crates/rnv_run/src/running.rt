@@ -15,8 +15,8 @@ ghost use Rattle.rnv_run.specs.Run.{IsResumed, IsRunRefusal, IsStoppedRun, Leave
 use crate::preparing::do_all;
 use crate::{PlannedRun, Summary};
 use rnv_base::Share;
-use rnv_plan::RunError;
 use rnv_forge::Forge;
+use rnv_plan::RunError;
 use std::alloc::Global;
 
 /// Does the writes of a run that is planned over a repository of the forge, and answers what it did. All

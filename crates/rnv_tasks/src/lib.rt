@@ -3,10 +3,10 @@
 
 mod command;
 mod done;
+mod done_file;
 mod end;
 mod error;
 mod joining;
-mod keeping;
 mod mem_spawner;
 mod spawner;
 mod steady;

@@ -6,8 +6,8 @@ ghost use Rattle.rnv_tasks.specs.Told.{MakesFirst};
 ghost use Rattle.rnv_tasks.specs.declared.error.TaskError.TheVariants.{TaskFault};
 
 use crate::command::{Command, read_commands};
+use crate::done_file::keep;
 use crate::joining::joined;
-use crate::keeping::keep;
 use crate::treating::treat_file;
 use crate::{Spawner, TaskError, Tasked};
 use rnv_base::{List, Share, Text};

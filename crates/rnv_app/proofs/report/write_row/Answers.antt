@@ -1,5 +1,5 @@
 use Rattle.std.proofs.Common.{◌++◌, ◌∷◌, ◌∙◌, ℕ, List, [], codes, subst}
-use Rattle.rnv_app.specs.End.{IsLine}
+use Rattle.rnv_app.specs.Refusals.{IsLine}
 use Rattle.rnv_app.proofs.report.write_row.Goals as goal
 
 pub returns-clause-line : goal.returns-clause-line

@@ -1,6 +1,6 @@
 use Rattle.std.proofs.Common.{◌≡◌, ◌∙◌, Err, ap, sym, subst}
-use Rattle.rnv_app.specs.declared.end.Refusal.{Refusal}
-use Rattle.rnv_app.specs.declared.end.Refusal.TheVariants.{FolderFault}
+use Rattle.rnv_app.specs.declared.refusal.Refusal.{Refusal}
+use Rattle.rnv_app.specs.declared.refusal.Refusal.TheVariants.{FolderFault}
 use Rattle.rnv_app.specs.Top.{IsOfPlan, Tells}
 use Rattle.rnv_app.proofs.Answers.{plain_of, plan_fault, refusal_plain, refusal_tells, tells_of}
 use Rattle.rnv_app.proofs.top.plan_for.Goals as goal
