@@ -22,11 +22,7 @@ const PIECE: usize = 4096;
 
 /// Everything up to the end. `TooLong` exactly where one byte more than the limit was read, which is
 /// the last that is taken; `Fault` only where the source's count of faults rose.
-pub fn read_all<S: Source>(
-    alloc: Global,
-    source: &mut S,
-    limit: usize,
-) -> Result<Bytes, ReadError>
+pub fn read_all<S: Source>(alloc: Global, source: &mut S, limit: usize) -> Result<Bytes, ReadError>
     ensures bytes { S.tells → IfOk result (λ all. all.bytes ≡ S.left source.old) }
     ensures end { S.tells → OnOk result (S.left source.new ≡ []) }
     ensures short { IfOk result (λ all. length all.bytes ≤ limit) }
