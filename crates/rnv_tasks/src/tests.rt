@@ -1,4 +1,4 @@
-use crate::{MemSpawner, SteadySpawner, TaskAnswer, TaskCall, TaskEnd, TaskError, tasked};
+use crate::{MemSpawner, SteadySpawner, TaskAnswer, TaskCall, TaskEnd, TaskError, Tasked, tasked};
 use rnv_base::{Bytes, List, Text};
 use rnv_repo::EditedFile;
 use std::alloc::{AllocError, Global};
@@ -80,6 +80,54 @@ fn shown_calls(alloc: Global, calls: &[TaskCall]) -> Result<String, Fail> {
         shown.push_str(";")?;
     }
     Ok(shown)
+}
+
+// What is behind tasks: the files, the problem and the calls, with a `|` between them.
+fn shown(alloc: Global, done: &Tasked, calls: &[TaskCall]) -> Result<String, Fail> {
+    let files = shown_files(alloc, done.files.as_slice())?;
+    let calls = shown_calls(alloc, calls)?;
+    let problem = done.problem.as_str();
+    Ok(format!(in alloc; "{files}|{problem}|{calls}")?)
+}
+
+// Runs the tasks of a row: the operator's list, the commands, what programs give, and the files, with a
+// `|` between them.
+fn run_row(alloc: Global, row: &str) -> Result<String, Fail> {
+    let (allowed, row) = row.split_once('|').ok_or("no commands")?;
+    let (commands, row) = row.split_once('|').ok_or("no answers")?;
+    let (given, edited) = row.split_once('|').ok_or("no files")?;
+    let allowed = texts(alloc, allowed)?;
+    let commands = texts(alloc, commands)?;
+    let mut spawner = SteadySpawner::new(alloc, answers(alloc, given)?);
+    let edited = files(alloc, edited)?;
+    let done = tasked(alloc, &mut spawner, &allowed, &commands, &edited).map_err(|_| "fault")?;
+    shown(alloc, &done, spawner.calls())
+}
+
+// Rows with an empty line between them, and behind `=>` the files, the problem and the calls.
+const ROWS: &str = "\
+sort;|sort;|sort:b=1.1.0\na=2.0.0\n:0:a=2.0.0\nb=1.1.0\n;|versions.txt:b=1.1.0\na=2.0.0\n;\
+=>versions.txt:a=2.0.0\nb=1.1.0\n;||sort :b=1.1.0\na=2.0.0\n;\n\n\
+sort;|sort;|sort:b=1.1.0\na=2.0.0\n:1:a=2.0.0\nb=1.1.0\n;|versions.txt:b=1.1.0\na=2.0.0\n;\
+=>versions.txt:b=1.1.0\na=2.0.0\n;|versions.txt: sort ended with 1|sort :b=1.1.0\na=2.0.0\n;\n\n\
+sort;|sort;||a:b;=>a:b;|a: sort ended with 255|sort :b;\n\n\
+sort;|sort;|sort:b:0:;|a:b;=>a:;||sort :b;\n\n\
+up;down;|up;down;|up:1:0:2;down:2:0:3;|a:1;=>a:3;||up :1;down :2;\n\n\
+up;|up;down;|up:1:0:2;down:2:0:3;|a:1;=>a:1;|a: down is not allowed|up :1;\n\n\
+sort -r;sort  -r ;|sort  -r ;sort -r;|sort -r:1:0:2;sort -r:2:0:1;|a:1;=>a:1;||sort -r :1;sort -r :2;\n\n\
+sort;|sort -r;||a:1;=>a:1;|a: sort -r is not allowed|\n\n\
+ ;;| ;||a:1;=>a:1;|a:   is not allowed|\n\n\
+up;|up;|up:1:0:2;up:2:3:;|a:1;b:2;c:1;d:4;\
+=>a:2;b:2;c:2;d:4;|b: up ended with 3; d: up ended with 255|up :1;up :2;up :1;up :4;";
+
+#[test]
+fn runs_tasks(rt: HostRuntime) -> Result<(), Fail> {
+    for row in ROWS.split("\n\n") {
+        let (given, want) = row.split_once("=>").ok_or("no end")?;
+        let done = run_row(rt.alloc(), given)?;
+        assert_eq!(rt; done.as_str(), want, "{given}");
+    }
+    Ok(())
 }
 
 // As many bytes.
