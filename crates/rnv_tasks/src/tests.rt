@@ -135,41 +135,46 @@ fn many(alloc: Global, count: usize) -> Result<Bytes, AllocError> {
     Ok(Bytes::new(vec![in alloc; b'a'; count]?))
 }
 
-// Of a file and an output at their limits and above: the bytes of the file in the end, and the problem.
+// What commands make of a file of so many bytes, where `up` gives as many others for it.
+fn limited(alloc: Global, commands: &str, size: usize, output: usize) -> Result<Tasked, Fail> {
+    let mut given = List::empty(alloc);
+    given.push(TaskAnswer {
+        call: TaskCall {
+            words: texts(alloc, "up;")?,
+            input: many(alloc, size)?,
+        },
+        end: TaskEnd {
+            status: 0,
+            output: many(alloc, output)?,
+        },
+    })?;
+    let mut spawner = SteadySpawner::new(alloc, given);
+    let mut files = List::empty(alloc);
+    files.push(EditedFile {
+        path: Text::copied(alloc, "a")?,
+        bytes: many(alloc, size)?,
+    })?;
+    let allowed = texts(alloc, "up;")?;
+    let commands = texts(alloc, commands)?;
+    let done = tasked(alloc, &mut spawner, &allowed, &commands, &files).map_err(|_| "fault")?;
+    Ok(done)
+}
+
+// Of commands, a file and an output at their limits and above: the bytes of the file in the end, and the
+// problem.
 #[test]
 fn keeps_limits(rt: HostRuntime) -> Result<(), Fail> {
-    let alloc = rt.alloc();
-    for (size, output, want, problem) in [
-        (32_768, 1_048_576, 1_048_576, ""),
-        (32_769, 1, 32_769, "a: too large for tasks"),
-        (1, 1_048_577, 1, "a: up gave too much"),
+    for (commands, size, output, want, problem) in [
+        ("up;", 32_768, 1_048_576, 1_048_576, ""),
+        ("up;", 32_769, 1, 32_769, "a: too large for tasks"),
+        ("up;", 1, 1_048_577, 1, "a: up gave too much"),
+        ("", 32_769, 1, 32_769, ""),
     ] {
-        let mut given = List::empty(alloc);
-        given.push(TaskAnswer {
-            call: TaskCall {
-                words: texts(alloc, "up;")?,
-                input: many(alloc, size)?,
-            },
-            end: TaskEnd {
-                status: 0,
-                output: many(alloc, output)?,
-            },
-        })?;
-        let mut spawner = SteadySpawner::new(alloc, given);
-        let mut files = List::empty(alloc);
-        files.push(EditedFile {
-            path: Text::copied(alloc, "a")?,
-            bytes: many(alloc, size)?,
-        })?;
-        let up = texts(alloc, "up;")?;
-        let done = tasked(alloc, &mut spawner, &up, &up, &files).map_err(|_| "fault")?;
+        let done = limited(rt.alloc(), commands, size, output)?;
         for file in done.files.as_slice() {
             assert_eq!(rt; file.bytes.as_slice().len(), want);
         }
         assert_eq!(rt; done.problem.as_str(), problem);
-        let none = List::empty(alloc);
-        let idle = tasked(alloc, &mut spawner, &up, &none, &files).map_err(|_| "fault")?;
-        assert_eq!(rt; idle.problem.as_str(), "");
     }
     Ok(())
 }
