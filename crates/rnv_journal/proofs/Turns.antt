@@ -6,7 +6,7 @@ use Rattle.rnv_journal.specs.Held.{Held, appended}
 use Rattle.rnv_journal.specs.Reading.{EachReading}
 use Rattle.rnv_journal.specs.Readings.{ReadsOnly, IsAtRest, IsOldOrAppended}
 use Rattle.rnv_journal.proofs.Uses.{reads_weaker, reads_first, reads_then, rest_reads, since_then, reads_later}
-use Rattle.rnv_append.specs.Front.{IsFront, StandsSince}
+use Rattle.rnv_journal.specs.Front.{IsFront, StandsSince}
 
 take_more : (i : ℕ) (xs : List (List ℕ)) → take i xs ++ take 1 (drop i xs) ≡ take (suc i) xs
 take_more zero [] = refl

@@ -1,7 +1,6 @@
-use crate::append_all;
+use crate::{AppendError, Journal, PrepareError, StartError};
 use rnv_base::{Bytes, List};
 use rnv_disk::{Call, Content, FileNo, MemDisk};
-use rnv_journal::{AppendError, Journal, PrepareError, StartError};
 use std::alloc::Global;
 use std::convert::AsSlice;
 use std::test::Fail;
@@ -46,7 +45,7 @@ fn appended(alloc: Global, disk: &mut MemDisk, strings: &[&[u8]]) -> Result<Opti
         Ok(()) => {}
         Err(_) => return Err("not prepared".into()),
     }
-    match append_all(&mut journal, disk) {
+    match journal.append_all(disk) {
         Ok(()) => Ok(Some(journal)),
         Err(_) => Ok(None),
     }
@@ -60,7 +59,7 @@ fn answered(alloc: Global, strings: &[&[u8]]) -> Result<(Result<(), PrepareError
         return Err("no journal".into());
     };
     let answer = match journal.prepare(alloc, strings) {
-        Ok(()) => match append_all(&mut journal, &mut disk) {
+        Ok(()) => match journal.append_all(&mut disk) {
             Ok(()) => Ok(()),
             Err(_) => return Err("not appended".into()),
         },
@@ -214,7 +213,7 @@ fn a_fault_closes_the_journal(rt: HostRuntime) -> Result<(), Fail> {
         Ok(()) => {}
         Err(_) => return Err("not prepared".into()),
     }
-    let answer = append_all(&mut journal, &mut disk);
+    let answer = journal.append_all(&mut disk);
     assert_eq!(rt; answer, Err(AppendError::DiskFault));
     assert_eq!(rt; journal.prepare(alloc, second), Err(PrepareError::Closed));
     assert_eq!(rt; journal.prepared(), 0);
