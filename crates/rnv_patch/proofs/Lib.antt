@@ -1,0 +1,5 @@
+pub mod FirstLine
+pub mod SameLines
+pub mod Trims
+pub mod Cuts
+pub mod Files
