@@ -3,3 +3,5 @@ pub mod SameLines
 pub mod Trims
 pub mod Cuts
 pub mod Files
+pub mod Bases
+pub mod Parts

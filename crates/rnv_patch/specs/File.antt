@@ -1,5 +1,5 @@
 -- The diff of a file, and how it is written.
-use Rattle.std.specs.Prelude.{◌≡◌, ℕ, Bool, true, false, if◌then◌else◌, List, [], ◌∷◌, ◌++◌, codes, Option, None, Some}
+use Rattle.std.specs.Prelude.{◌≡◌, ◌≢◌, ℕ, Bool, true, false, if◌then◌else◌, List, [], ◌∷◌, ◌++◌, flat_map, codes, Option, None, Some}
 use Rattle.rnv_patch.specs.Diff.{Hunk}
 use Rattle.rnv_patch.specs.Hunks.{AreHunks}
 use Rattle.rnv_patch.specs.Lines.{lines}
@@ -59,3 +59,20 @@ pub record AddDiff (path : List ℕ) (old : Option (List ℕ)) (new : List ℕ) 
   pub diff : FileDiff
   pub is : IsDiff path old new diff
   pub text : after ≡ before ++ diff_text diff
+
+-- ---- none or one
+
+-- no diff where the file has this text already, and else one
+abbrev pub IsPart : List ℕ → Option (List ℕ) → List ℕ → List FileDiff → Type 0
+IsPart path old new [] = old ≡ Some new
+IsPart path old new (d ∷ []) = (old ≢ Some new) × IsDiff path old new d
+IsPart path old new (d ∷ e ∷ diffs) = ⊥
+
+abbrev pub diffs_text : List FileDiff → List ℕ
+diffs_text diffs = flat_map diff_text diffs
+
+-- its text at the end
+pub record AddPart (path : List ℕ) (old : Option (List ℕ)) (new : List ℕ) (before after : List ℕ) : Type 0 where
+  pub part : List FileDiff
+  pub is : IsPart path old new part
+  pub text : after ≡ before ++ diffs_text part

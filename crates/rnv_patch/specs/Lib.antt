@@ -5,3 +5,4 @@ pub mod Written
 pub mod Trimmed
 pub mod Hunks
 pub mod File
+pub mod Patch

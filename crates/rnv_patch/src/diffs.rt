@@ -1,5 +1,6 @@
 ghost use Rattle.std.specs.Prelude.{◌≡◌, ◌≢◌, ◌++◌, [], true, OnOk, None, Some};
-ghost use Rattle.rnv_patch.specs.File.{AddDiff, git_line, mode_line, name_lines, old_name};
+ghost use Rattle.std.specs.Option.{option_copied};
+ghost use Rattle.rnv_patch.specs.File.{AddDiff, AddPart, git_line, mode_line, name_lines, old_name};
 
 use crate::names::{add_name_end, add_named};
 use crate::trimming::add_hunks;
@@ -86,4 +87,51 @@ fn add_empty(out: &mut Vec<u8>, path: &[u8]) -> Result<(), AllocError>
 {
     add_git_line(out, path)?;
     add_mode_line(out)
+}
+
+// The diff of a file at the end, where it has another text than the base's, or the base has no such file.
+pub(crate) fn add_diff(
+    alloc: Global,
+    out: &mut Vec<u8>,
+    path: &[u8],
+    old: Option<&[u8]>,
+    new: &[u8],
+) -> Result<(), AllocError>
+    ensures { OnOk result (AddPart path.now (option_copied old.entry) new.now out.old.items out.new.items) }
+{
+    match old {
+        Some(old) => add_difference(alloc, out, path, old, new),
+        None => add_new(alloc, out, path, new),
+    }
+}
+
+// The same of a file that the base has.
+fn add_difference(
+    alloc: Global,
+    out: &mut Vec<u8>,
+    path: &[u8],
+    old: &[u8],
+    new: &[u8],
+) -> Result<(), AllocError>
+    ensures { OnOk result (AddPart path.now (Some old.now) new.now out.old.items out.new.items) }
+{
+    if old == new {
+        return Ok(());
+    }
+    add_changed(alloc, out, path, old, new)
+}
+
+// The same of a new file.
+fn add_new(
+    alloc: Global,
+    out: &mut Vec<u8>,
+    path: &[u8],
+    new: &[u8],
+) -> Result<(), AllocError>
+    ensures { OnOk result (AddPart path.now None new.now out.old.items out.new.items) }
+{
+    if new.is_empty() {
+        return add_empty(out, path);
+    }
+    add_filled(alloc, out, path, new)
 }

@@ -1,8 +1,12 @@
-//! Patches: unified diffs from files to other ones, as `git apply` and `patch -p1` take them.
+//! Patches: unified diffs from the files of a base to those of a branch, as `git apply` and `patch -p1`
+//! take them.
 #![tactic(auto)]
 
 mod diffs;
 mod hunks;
 mod lines;
 mod names;
+mod patch;
 mod trimming;
+
+pub use patch::patch_text;
