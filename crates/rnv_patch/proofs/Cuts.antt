@@ -92,9 +92,9 @@ cut old new f e front end = record {
 pub hunk_takes : (old new : List (List ℕ)) (h : Hunk) → IsTrimmed old new h → AreHunks old new (h ∷ [])
 hunk_takes old new h trimmed = record {
   take = subst (λ (g : Hunk). Take (g ∷ []) old new) (sym trimmed.hunk_is)
-    (subst (λ (ls : List (List ℕ)). Take (trimmed_hunk trimmed.front trimmed.old_middle trimmed.new_middle trimmed.end ∷ []) ls new) (sym trimmed.old_is)
-    (subst (λ (ls : List (List ℕ)). Take (trimmed_hunk trimmed.front trimmed.old_middle trimmed.new_middle trimmed.end ∷ []) (trimmed.front ++ (trimmed.old_middle ++ trimmed.end)) ls) (sym trimmed.new_is)
-    (trimmed_takes trimmed.front trimmed.old_middle trimmed.new_middle trimmed.end)));
+      (subst (λ (ls : List (List ℕ)). Take (trimmed_hunk trimmed.front trimmed.old_middle trimmed.new_middle trimmed.end ∷ []) ls new) (sym trimmed.old_is)
+      (subst (λ (ls : List (List ℕ)). Take (trimmed_hunk trimmed.front trimmed.old_middle trimmed.new_middle trimmed.end ∷ []) (trimmed.front ++ (trimmed.old_middle ++ trimmed.end)) ls) (sym trimmed.new_is)
+      (trimmed_takes trimmed.front trimmed.old_middle trimmed.new_middle trimmed.end)));
   short = trimmed;
 }
 
@@ -122,7 +122,7 @@ end_lent old new n a b same differ =
       in_new = omega (arith, q);
       same = ap (λ (k : ℕ). drop (k - n) (lent old)) p ∙ same ∙ ap (λ (k : ℕ). drop (k - n) (lent new)) (sym q);
       differ = λ u v e. differ (omega (arith, u, p)) (omega (arith, v, q))
-        (ap (λ (k : ℕ). get_or (lent old) (k - 1 - n) []) (sym p) ∙ e ∙ ap (λ (k : ℕ). get_or (lent new) (k - 1 - n) []) q);
+          (ap (λ (k : ℕ). get_or (lent old) (k - 1 - n) []) (sym p) ∙ e ∙ ap (λ (k : ℕ). get_or (lent new) (k - 1 - n) []) q);
     }
 
 take_least : (n : ℕ) (xs : List (Bor (List ℕ))) → take (min (length xs) n) xs ≡ take n xs
@@ -170,8 +170,8 @@ parts_hunk old new before olds news oldm newm behind context after f e start mos
     let af = taken 3 behind after (parts.after_is ∙ ap (λ (k : ℕ). take k behind) parts.most_is ∙ take_least 3 behind) ∙ ap (λ (t : List (List ℕ)). take 3 t) b in
     let end' : IsEnd (drop f (lent old)) (drop f (lent new)) e = subst (λ (t : List (List ℕ)). IsEnd t (drop f (lent new)) e) o (subst (λ (t : List (List ℕ)). IsEnd (lent olds) t e) n end) in
     let same : hunk_of start (lent context) (lent oldm) (lent newm) (lent after)
-        ≡ trimmed_hunk (take f (lent old)) (take (length (drop f (lent old)) - e) (drop f (lent old))) (take (length (drop f (lent new)) - e) (drop f (lent new))) (drop (length (drop f (lent old)) - e) (drop f (lent old)))
-        = λ i. hunk_of (st i) (co i) (om i) (nm i) (af i) in
+    ≡ trimmed_hunk (take f (lent old)) (take (length (drop f (lent old)) - e) (drop f (lent old))) (take (length (drop f (lent new)) - e) (drop f (lent new))) (drop (length (drop f (lent old)) - e) (drop f (lent old)))
+    = λ i. hunk_of (st i) (co i) (om i) (nm i) (af i) in
     hunk_takes (lent old) (lent new) (hunk_of start (lent context) (lent oldm) (lent newm) (lent after))
     (subst (λ (h : Hunk). IsTrimmed (lent old) (lent new) h) (sym same) (cut (lent old) (lent new) f e front end'))
 

@@ -25,9 +25,9 @@ changed path old new out o1 o2 o3 differ e1 e2 add = record {
   diff = record { path = path; is_new = false; hunks = add.hunks };
   is = record { path_is = refl; is_new = refl; hunks = add.are };
   text = add.text ∙ ap (λ t. t ++ hunks_text add.hunks) (e2 ∙ ap (λ t. t ++ name_lines false path) e1)
-    ∙ append_assoc (out ++ git_line path) (name_lines false path) (hunks_text add.hunks)
-    ∙ append_assoc out (git_line path) (name_lines false path ++ hunks_text add.hunks)
-    ∙ ap (λ t. out ++ (git_line path ++ t)) (filled old new false path add.hunks differ add.are);
+      ∙ append_assoc (out ++ git_line path) (name_lines false path) (hunks_text add.hunks)
+      ∙ append_assoc out (git_line path) (name_lines false path ++ hunks_text add.hunks)
+      ∙ ap (λ t. out ++ (git_line path ++ t)) (filled old new false path add.hunks differ add.are);
 }
 
 pub made : (path new out o1 o2 o3 o4 : List ℕ) → new ≢ [] → o1 ≡ out ++ git_line path → o2 ≡ o1 ++ codes "new file mode 100644\n"
@@ -37,10 +37,10 @@ made path new out o1 o2 o3 o4 differ e1 e2 e3 add = record {
   diff = record { path = path; is_new = true; hunks = add.hunks };
   is = record { path_is = refl; is_new = refl; hunks = add.are };
   text = add.text ∙ ap (λ t. t ++ hunks_text add.hunks) (e3 ∙ ap (λ t. t ++ name_lines true path) (e2 ∙ ap (λ t. t ++ codes "new file mode 100644\n") e1))
-    ∙ append_assoc ((out ++ git_line path) ++ codes "new file mode 100644\n") (name_lines true path) (hunks_text add.hunks)
-    ∙ append_assoc (out ++ git_line path) (codes "new file mode 100644\n") (name_lines true path ++ hunks_text add.hunks)
-    ∙ append_assoc out (git_line path) (codes "new file mode 100644\n" ++ (name_lines true path ++ hunks_text add.hunks))
-    ∙ ap (λ t. out ++ (git_line path ++ (codes "new file mode 100644\n" ++ t))) (filled [] new true path add.hunks (λ e. differ (sym e)) add.are);
+      ∙ append_assoc ((out ++ git_line path) ++ codes "new file mode 100644\n") (name_lines true path) (hunks_text add.hunks)
+      ∙ append_assoc (out ++ git_line path) (codes "new file mode 100644\n") (name_lines true path ++ hunks_text add.hunks)
+      ∙ append_assoc out (git_line path) (codes "new file mode 100644\n" ++ (name_lines true path ++ hunks_text add.hunks))
+      ∙ ap (λ t. out ++ (git_line path ++ (codes "new file mode 100644\n" ++ t))) (filled [] new true path add.hunks (λ e. differ (sym e)) add.are);
 }
 
 pub empty : (path out o1 o2 : List ℕ) → o1 ≡ out ++ git_line path → o2 ≡ o1 ++ codes "new file mode 100644\n" → AddDiff path None [] out o2
@@ -49,5 +49,5 @@ empty path out o1 o2 e1 e2 = record {
   diff = record { path = path; is_new = true; hunks = [] };
   is = record { path_is = refl; is_new = refl; hunks = record { take = refl; short = tt } };
   text = e2 ∙ ap (λ t. t ++ codes "new file mode 100644\n") e1 ∙ append_assoc out (git_line path) (codes "new file mode 100644\n")
-    ∙ ap (λ t. out ++ (git_line path ++ t)) (sym (append-nil (codes "new file mode 100644\n")));
+      ∙ ap (λ t. out ++ (git_line path ++ t)) (sym (append-nil (codes "new file mode 100644\n")));
 }

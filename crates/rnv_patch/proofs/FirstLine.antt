@@ -39,11 +39,11 @@ whole b (c ∷ bs) h = elim (cases_Bool (b == 10)) [
 pub first_ended : (text : List ℕ) (n : ℕ) → position (λ b. b == 10) text ≡ Some n → (n < length text) × (lines text ≡ take (n + 1) text ∷ lines (drop (n + 1) text))
 first_ended text n e = elim (cases_Bool (nat_lt (feed_at text) (length text))) [
   | inl hit ↦
-    let e' : Some (feed_at text) ≡ Some n = rw hit at e in
-    let same : feed_at text ≡ n = cc in
-    let below : feed_at text < length text = ltb-true (feed_at text) (length text) hit in
-    let more : suc n ≡ n + 1 = omega arith in
-    (omega arith, ended text n same (omega arith) ∙ ap (λ (k : ℕ). take k text ∷ lines (drop k text)) more)
+      let e' : Some (feed_at text) ≡ Some n = rw hit at e in
+      let same : feed_at text ≡ n = cc in
+      let below : feed_at text < length text = ltb-true (feed_at text) (length text) hit in
+      let more : suc n ≡ n + 1 = omega arith in
+      (omega arith, ended text n same (omega arith) ∙ ap (λ (k : ℕ). take k text ∷ lines (drop k text)) more)
   | inr miss ↦ let e' : None ≡ Some n = rw miss at e in absurd cc
 ]
 
@@ -52,8 +52,8 @@ one_line [] e h = absurd (omega arith)
 one_line (b ∷ bs) e h = elim (cases_Bool (nat_lt (feed_at (b ∷ bs)) (length (b ∷ bs)))) [
   | inl hit ↦ let e' : Some (feed_at (b ∷ bs)) ≡ None = rw hit at e in absurd cc
   | inr miss ↦
-    let above : length (b ∷ bs) ≤ feed_at (b ∷ bs) = ltb-false (feed_at (b ∷ bs)) (length (b ∷ bs)) miss in
-    whole b bs above ∙ (λ i. sym (take_whole (b ∷ bs)) i ∷ lines (sym (drop_whole (b ∷ bs)) i))
+      let above : length (b ∷ bs) ≤ feed_at (b ∷ bs) = ltb-false (feed_at (b ∷ bs)) (length (b ∷ bs)) miss in
+      whole b bs above ∙ (λ i. sym (take_whole (b ∷ bs)) i ∷ lines (sym (drop_whole (b ∷ bs)) i))
 ]
 
 fronted : (b : ℕ) (ls : List (List ℕ)) → concat (with_front b ls) ≡ b ∷ concat ls

@@ -5,3 +5,4 @@ pub mod Cuts
 pub mod Files
 pub mod Bases
 pub mod Parts
+pub mod Rises

@@ -66,12 +66,7 @@ fn add_changed(
 }
 
 // The diff of a new file with lines, at the end.
-fn add_filled(
-    alloc: Global,
-    out: &mut Vec<u8>,
-    path: &[u8],
-    new: &[u8],
-) -> Result<(), AllocError>
+fn add_filled(alloc: Global, out: &mut Vec<u8>, path: &[u8], new: &[u8]) -> Result<(), AllocError>
     requires { new.now ≢ [] }
     ensures { OnOk result (AddDiff path.now None new.now out.old.items out.new.items) }
 {
@@ -122,12 +117,7 @@ fn add_difference(
 }
 
 // The same of a new file.
-fn add_new(
-    alloc: Global,
-    out: &mut Vec<u8>,
-    path: &[u8],
-    new: &[u8],
-) -> Result<(), AllocError>
+fn add_new(alloc: Global, out: &mut Vec<u8>, path: &[u8], new: &[u8]) -> Result<(), AllocError>
     ensures { OnOk result (AddPart path.now None new.now out.old.items out.new.items) }
 {
     if new.is_empty() {

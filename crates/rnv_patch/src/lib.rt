@@ -7,6 +7,8 @@ mod hunks;
 mod lines;
 mod names;
 mod patch;
+#[cfg(test)]
+mod tests;
 mod trimming;
 
 pub use patch::patch_text;

@@ -32,11 +32,7 @@ pub fn patch_text(
     Ok(Bytes::new(patch))
 }
 
-fn patch_bytes(
-    alloc: Global,
-    base: &[FileAt],
-    files: &[EditedFile],
-) -> Result<Vec<u8>, AllocError>
+fn patch_bytes(alloc: Global, base: &[FileAt], files: &[EditedFile]) -> Result<Vec<u8>, AllocError>
     requires { IsRisingBy path_of base.now }
     ensures { IfOk result (λ patch. IsPatch base.now files.now patch.items) }
 {

@@ -13,7 +13,7 @@ returns-in-Some c =
 pub returns-in_default : goal.returns-in_default
 returns-in_default c = elim c.in_default.branch [
   | in_default-via-in-Some+else-eq w ↦
-    elsewhere c.args.base.now c.args.path.now c.place_of.result w.in-Some.file.now w.file.inside.path c.requires c.place_of.ensures
-    w.in-Some.ensures.lookup.3.1 (sym (ap (λ (f : MarkedFile). f.path) w.file.view_is)) w.if-eq.ensures
+      elsewhere c.args.base.now c.args.path.now c.place_of.result w.in-Some.file.now w.file.inside.path c.requires c.place_of.ensures
+      w.in-Some.ensures.lookup.3.1 (sym (ap (λ (f : MarkedFile). f.path) w.file.view_is)) w.if-eq.ensures
   | in_default-via-in_default w ↦ nowhere c.args.base.now c.args.path.now c.place_of.result c.requires c.place_of.ensures w.in_default.ensures.lookup.3
 ]
