@@ -1,10 +1,10 @@
 -- What stands between the longest common front and the longest common end.
-use Rattle.std.proofs.Common.{Bor, inl, inr, ◌≡◌, ◌≢◌, ◌∙◌, ℕ, zero, suc, ◌+◌, ◌-◌, ◌<◌, ◌≤◌, min, List, [], ◌∷◌, ◌++◌, length, take, drop, map, get_or, refl, sym, ap, subst, arith, append_assoc, length-append, length-take, length-drop}
+use Rattle.std.proofs.Common.{Bor, inl, inr, ◌≡◌, ◌≢◌, ◌∙◌, ℕ, zero, suc, ◌+◌, ◌-◌, ◌<◌, ◌≤◌, min, List, [], ◌∷◌, ◌++◌, length, take, drop, get_or, refl, sym, ap, subst, arith, length-append, length-take, length-drop}
 use Rattle.std.proofs.lemmas.List.{append-nil, length-map, take_all, take-map, drop-map, take-append-drop}
 use Rattle.std.proofs.lemmas.Bool.{cases_lt}
 use Rattle.rnv_patch.specs.Lines.{lent}
 use Rattle.rnv_patch.specs.Diff.{Hunk, Take}
-use Rattle.rnv_patch.specs.Trimmed.{last_three, first_three, hunk_of, trimmed_hunk, BeginAlike, EndAlike, IsTrimmed}
+use Rattle.rnv_patch.specs.Trimmed.{hunk_of, trimmed_hunk, BeginAlike, EndAlike, IsTrimmed}
 use Rattle.rnv_patch.specs.Hunks.{AreHunks, AddHunks}
 use Rattle.rnv_patch.specs.Written.{hunk_text}
 use Rattle.rnv_patch.proofs.Trims.{trimmed_takes}

@@ -1,12 +1,12 @@
 -- The diff of a file, put together.
-use Rattle.std.proofs.Common.{◌≡◌, ◌≢◌, ◌∙◌, ℕ, Bool, true, false, List, [], ◌∷◌, ◌++◌, Option, None, Some, codes, refl, sym, ap, append_assoc}
+use Rattle.std.proofs.Common.{◌≡◌, ◌≢◌, ◌∙◌, ℕ, Bool, true, false, List, [], ◌∷◌, ◌++◌, None, Some, codes, refl, sym, ap, append_assoc}
 use Rattle.std.specs.List.{concat}
 use Rattle.std.proofs.lemmas.List.{append-nil}
 use Rattle.rnv_patch.specs.Diff.{Hunk}
 use Rattle.rnv_patch.specs.Hunks.{AddHunks, AreHunks}
 use Rattle.rnv_patch.specs.Lines.{lines}
 use Rattle.rnv_patch.specs.Written.{hunks_text}
-use Rattle.rnv_patch.specs.File.{FileDiff, AddDiff, IsDiff, body_text, diff_text, git_line, name_lines}
+use Rattle.rnv_patch.specs.File.{AddDiff, body_text, diff_text, git_line, name_lines}
 use Rattle.rnv_patch.proofs.FirstLine.{lines_make}
 
 same_texts : (old new : List ℕ) → lines old ≡ lines new → old ≡ new

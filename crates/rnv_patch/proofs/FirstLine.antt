@@ -1,5 +1,5 @@
 -- The first line of a text ends with its first line feed, or it is the whole text.
-use Rattle.std.proofs.Common.{◌≡◌, ◌∙◌, ℕ, zero, suc, ◌+◌, ◌<◌, ◌≤◌, ◌==◌, Bool, true, false, nat_lt, Some, None, List, [], ◌∷◌, length, take, drop, refl, sym, ap, arith, inl, inr}
+use Rattle.std.proofs.Common.{◌≡◌, ◌∙◌, ℕ, zero, suc, ◌+◌, ◌<◌, ◌≤◌, ◌==◌, nat_lt, Some, None, List, [], ◌∷◌, length, take, drop, refl, sym, ap, arith, inl, inr}
 use Rattle.std.specs.List.{concat, position, position_or_len}
 use Rattle.std.proofs.lemmas.Bool.{cases_Bool, eqb-true, ltb-true, ltb-false}
 use Rattle.rnv_patch.specs.Lines.{lines, with_front}

@@ -1,10 +1,10 @@
 -- The diffs of files, one after the other.
-use Rattle.std.proofs.Common.{◌≡◌, ◌≢◌, ◌∙◌, ℕ, ◌+◌, ◌<◌, length, take, get_or, subst, List, [], ◌∷◌, ◌++◌, Option, None, Some, flat_map, refl, sym, ap, append_assoc}
+use Rattle.std.proofs.Common.{◌≡◌, ◌≢◌, ◌∙◌, ℕ, ◌+◌, ◌<◌, length, take, get_or, subst, List, [], ◌∷◌, ◌++◌, Option, Some, refl, sym, ap, append_assoc}
 use Rattle.std.proofs.lemmas.List.{append-nil, take_more}
 use Rattle.rnv_base.specs.Files.{NamedFile}
 use Rattle.rnv_repo.specs.Files.{MarkedFile}
 use Rattle.rnv_patch.specs.File.{AddDiff, AddPart, FileDiff, IsPart, diff_text, diffs_text}
-use Rattle.rnv_patch.specs.Patch.{AreDiffs, AreNext, IsPatch, text_at}
+use Rattle.rnv_patch.specs.Patch.{AreDiffs, IsPatch, text_at}
 
 pub no_part : (path : List ℕ) (old : Option (List ℕ)) (new out : List ℕ) → old ≡ Some new → AddPart path old new out out
 no_part path old new out same = record { part = []; is = same; text = sym (append-nil out) }

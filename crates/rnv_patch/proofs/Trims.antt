@@ -1,9 +1,9 @@
 -- The text of a trimmed hunk, and that it takes the old lines to the new ones.
-use Rattle.std.proofs.Common.{Bor, Result, Ok, Err, OnOk, ◌≡◌, ◌∙◌, ℕ, ◌+◌, ◌-◌, ◌≤◌, List, [], ◌∷◌, ◌++◌, length, take, drop, map, flat_map, refl, sym, ap, arith, append_assoc, length-append, length-take, length-drop}
+use Rattle.std.proofs.Common.{Bor, Result, Ok, Err, OnOk, ◌≡◌, ◌∙◌, ℕ, ◌+◌, ◌-◌, List, [], ◌∷◌, ◌++◌, length, take, drop, map, flat_map, refl, sym, ap, arith, append_assoc, length-append, length-take}
 use Rattle.std.proofs.lemmas.List.{length-map, take-append-drop}
-use Rattle.rnv_patch.specs.Diff.{Change, kept, removed, added, Hunk, old_lines, new_lines, HunkTakes, Take}
+use Rattle.rnv_patch.specs.Diff.{Change, kept, removed, added, old_lines, new_lines, Take}
 use Rattle.rnv_patch.specs.Written.{change_text, header_text, hunk_text, signed}
-use Rattle.rnv_patch.specs.Trimmed.{last_three, first_three, hunk_of, trimmed_hunk, IsTrimmed}
+use Rattle.rnv_patch.specs.Trimmed.{last_three, first_three, hunk_of, trimmed_hunk}
 use Rattle.rnv_patch.specs.Lines.{lent}
 
 -- ---- the lines of changes in a row

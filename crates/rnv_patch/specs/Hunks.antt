@@ -1,5 +1,5 @@
 -- The hunks of a diff, and what a function that writes them adds.
-use Rattle.std.specs.Prelude.{◌≡◌, ◌⊎◌, ℕ, List, [], ◌∷◌, ◌++◌}
+use Rattle.std.specs.Prelude.{◌≡◌, ℕ, List, [], ◌∷◌, ◌++◌}
 use Rattle.rnv_patch.specs.Diff.{Hunk, Take}
 use Rattle.rnv_patch.specs.Trimmed.{IsTrimmed}
 use Rattle.rnv_patch.specs.Written.{hunks_text}

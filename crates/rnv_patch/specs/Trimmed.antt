@@ -1,6 +1,6 @@
 -- The one hunk between a common front and a common end of two lists of lines.
 use Rattle.std.specs.Prelude.{◌≡◌, ℕ, ◌-◌, List, [], ◌∷◌, ◌++◌, length, take, drop, map}
-use Rattle.rnv_patch.specs.Diff.{Change, kept, removed, added, Hunk}
+use Rattle.rnv_patch.specs.Diff.{kept, removed, added, Hunk}
 
 -- the lines of context
 abbrev pub last_three : List (List ℕ) → List (List ℕ)

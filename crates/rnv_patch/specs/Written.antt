@@ -1,9 +1,8 @@
 -- How a diff is written.
-use Rattle.std.specs.Prelude.{ℕ, ◌+◌, ◌==◌, Bool, true, false, if◌then◌else◌, List, [], ◌∷◌, ◌++◌, length, flat_map, codes}
+use Rattle.std.specs.Prelude.{ℕ, ◌+◌, ◌==◌, if◌then◌else◌, List, [], ◌∷◌, ◌++◌, length, flat_map, codes}
 use Rattle.std.specs.Fmt.{decimal}
 use Rattle.rnv_patch.specs.Lines.{is_ended}
 use Rattle.rnv_patch.specs.Diff.{Change, kept, removed, added, Hunk, old_lines, new_lines}
-use Rattle.rnv_patch.specs.Names.{named, name_end}
 
 -- what stands behind a line without a line feed
 abbrev pub line_end : List ℕ → List ℕ
