@@ -6,3 +6,4 @@ pub mod Files
 pub mod Bases
 pub mod Parts
 pub mod Rises
+pub mod Applied

@@ -7,7 +7,7 @@ ghost use Rattle.rnv_repo.specs.Base.{path_of};
 ghost use Rattle.rnv_repo.specs.Named.{IsRisingBy, at};
 ghost use Rattle.rnv_patch.specs.File.{AddPart};
 ghost use Rattle.rnv_patch.specs.Lines.{lines};
-ghost use Rattle.rnv_patch.specs.Patch.{IsPatch, text_at};
+ghost use Rattle.rnv_patch.specs.Patch.{IsPatch, TakesToBranch, branch_path, text_at};
 
 use crate::diffs::add_diff;
 use rnv_base::{Bytes, List, Text};
@@ -24,8 +24,10 @@ pub fn patch_text(
     base: &List<FileAt>,
     files: &List<EditedFile>,
 ) -> Result<Bytes, AllocError>
-    requires { IsRisingBy path_of base.now }
+    requires base { IsRisingBy path_of base.now }
+    requires files { IsRisingBy branch_path files.now }
     ensures patch { IfOk result (λ patch. IsPatch base.now files.now patch.bytes) }
+    ensures applied { IfOk result (λ patch. TakesToBranch base.now files.now patch.bytes) }
     ensures lines { (text : Items ℕ) → concat (lines text) ≡ text }
 {
     let patch = patch_bytes(alloc, base.as_slice(), files.as_slice())?;

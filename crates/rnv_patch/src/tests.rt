@@ -1,6 +1,7 @@
 ghost use Rattle.std.specs.Prelude.{IfOk};
 ghost use Rattle.rnv_repo.specs.Base.{path_of};
 ghost use Rattle.rnv_repo.specs.Named.{IsRisingBy};
+ghost use Rattle.rnv_patch.specs.Patch.{branch_path};
 
 use crate::patch_text;
 use rnv_base::{Bytes, List, Text};
@@ -52,13 +53,20 @@ fn base_of(alloc: Global, path: &str, text: &str) -> Result<List<FileAt>, AllocE
     only(alloc, file_of(alloc, path, text)?)
 }
 
-fn branch_of(alloc: Global, path: &str, text: &str) -> Result<List<EditedFile>, Fail> {
+// The branch of one file.
+fn branch_of(alloc: Global, file: EditedFile) -> Result<List<EditedFile>, AllocError>
+    ensures { IfOk result (λ files. IsRisingBy branch_path files) }
+{
     let mut files = List::empty(alloc);
-    files.push(EditedFile {
+    files.push(file)?;
+    Ok(files)
+}
+
+fn edited(alloc: Global, path: &str, text: &str) -> Result<EditedFile, AllocError> {
+    Ok(EditedFile {
         path: Text::copied(alloc, path)?,
         bytes: unfolded(alloc, text)?,
-    })?;
-    Ok(files)
+    })
 }
 
 // Path, the base's text, the branch's text, and what `git diff --cached` prints of them (git 2.39.5), without its
@@ -89,7 +97,10 @@ tab\tü\u{1}\u{7f}.txt|-|2;|diff --git \"a/tab\\t\\303\\274\\001\\177.txt\" \"b/
         let mut fields = row.split('|');
         let path = fields.next().ok_or("no path")?;
         let base = base_of(alloc, path, fields.next().ok_or("no base")?)?;
-        let branch = branch_of(alloc, path, fields.next().ok_or("no branch")?)?;
+        let branch = branch_of(
+            alloc,
+            edited(alloc, path, fields.next().ok_or("no branch")?)?,
+        )?;
         let wanted = unfolded(alloc, fields.next().ok_or("no patch")?)?;
         let patch = patch_text(alloc, &base, &branch)?;
         assert_eq!(rt; patch.as_slice(), wanted.as_slice(), "{path}");
