@@ -6,8 +6,8 @@ use std::alloc::Global;
 use std::test::Fail;
 
 // What a reader answers.
-fn answer<T: Drop>(result: Result<T, Wrong>) -> &'static str {
-    match result {
+fn answer<T: Drop>(read: Result<T, Wrong>) -> &'static str {
+    match read {
         Ok(_) => "ok",
         Err(Wrong::WrongKind) => "kind",
         Err(Wrong::BadValue) => "value",
