@@ -1,5 +1,5 @@
 -- That a text is an age, by what a reading of it gives.
-use Rattle.std.proofs.Common.{◌≡◌, ◌↔◌, ℕ, List, Option, Some, None, true, false, refl, sym, ap, ◌∙◌}
+use Rattle.std.proofs.Common.{◌≡◌, ◌↔◌, ℕ, List, Option, Some, None, refl}
 use Rattle.std.specs.Prelude.{is_some}
 use Rattle.rnv_schedule.specs.Ages.{IsAge, age_of}
 use Rattle.rnv_schedule.proofs.AgeTexts.{ages_are}

@@ -1,7 +1,6 @@
 -- What is read behind what was read before.
-use Rattle.std.proofs.Common.{◌≡◌, ℕ, List, [], ◌∷◌, ◌++◌, Option, Some, None, refl, sym, ap, ◌∙◌, append-nil, append_assoc}
+use Rattle.std.proofs.Common.{◌≡◌, List, [], ◌∷◌, ◌++◌, Option, Some, None, refl, sym, ap, append-nil, append_assoc}
 use Rattle.std.specs.Prelude.{option_map}
-use Rattle.rnv_options.specs.Readings.{Lists}
 
 abbrev pub behind : {A : Type 0} → List A → Option (List A) → Option (List A)
 behind before read = option_map (λ xs. before ++ xs) read

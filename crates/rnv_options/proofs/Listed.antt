@@ -1,5 +1,5 @@
 -- Custom managers, one after another.
-use Rattle.std.proofs.Common.{◌≡◌, ℕ, List, [], ◌∷◌, ◌++◌, Bool, Ok, Err, Some, None, Option, Result, map, refl, sym, ap, subst, ◌∙◌, append-nil, append_assoc, drop, length, arith}
+use Rattle.std.proofs.Common.{◌≡◌, ℕ, List, [], ◌∷◌, ◌++◌, Bool, Ok, Err, Some, None, Option, Result, map, refl, sym, ap, ◌∙◌, append-nil, append_assoc, drop, length, arith}
 use Rattle.std.specs.Prelude.{◌<◌, IfOk, not}
 use Rattle.std.specs.List.{list_all}
 use Rattle.std.proofs.lemmas.Bool.{cond-true, cond-false}

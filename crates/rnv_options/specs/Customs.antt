@@ -8,7 +8,7 @@ use Rattle.rnv_base.specs.declared.kinds.SourceKind.{SourceKind}
 use Rattle.rnv_base.specs.declared.kinds.SourceKind.TheVariants.{Crates, Npm, Docker}
 use Rattle.rnv_pattern.specs.Patterns.{IsWholeExpression, pattern_text}
 use Rattle.rnv_pattern.specs.declared.pattern.Pattern.{Pattern}
-use Rattle.rnv_options.specs.Readings.{Each, Lists, texts_of, valued}
+use Rattle.rnv_options.specs.Readings.{Each, Lists, texts_of}
 use Rattle.rnv_options.specs.declared.error.Wrong.{Wrong}
 use Rattle.rnv_options.specs.declared.error.Wrong.TheVariants.{WrongKind, BadValue, Memory}
 use Rattle.rnv_options.specs.declared.plain.Custom.{Custom}

@@ -1,4 +1,4 @@
-use Rattle.std.proofs.Common.{◌≡◌, ℕ, List, Bool, drop, ◌+◌, ap, sym, subst, ◌∙◌, arith}
+use Rattle.std.proofs.Common.{drop, ◌+◌, sym, subst, arith}
 use Rattle.rnv_pattern.proofs.Turns.{agrees_first, agrees_later, asks_none, asks_then}
 use Rattle.rnv_options.specs.Customs.{IsCustomBuilt}
 use Rattle.rnv_options.specs.Readings.{Each}

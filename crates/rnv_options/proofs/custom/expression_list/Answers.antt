@@ -1,4 +1,4 @@
-use Rattle.std.proofs.Common.{◌≡◌, Err, ℕ, List, Bool, true, not, ap, sym, subst, ◌∙◌, arith, rules}
+use Rattle.std.proofs.Common.{◌≡◌, Err, ℕ, List, true, not, ap, sym, subst, ◌∙◌, arith, rules}
 use Rattle.std.specs.List.{list_all}
 use Rattle.rnv_pattern.specs.Patterns.{IsWholeExpression}
 use Rattle.rnv_pattern.proofs.Turns.{agrees_first, agrees_later, asks_none, asks_then}

@@ -1,4 +1,4 @@
-use Rattle.std.proofs.Common.{◌≡◌, ◌<◌, List, ℕ, Option, Some, length, sym, ap, subst, ◌∙◌, rules}
+use Rattle.std.proofs.Common.{◌≡◌, ◌<◌, Option, Some, length, sym, ap, subst, ◌∙◌, rules}
 use Rattle.rnv_options.specs.Customs.{Gives, expressions_if, texts_built}
 use Rattle.rnv_options.specs.Readings.{Lists}
 use Rattle.rnv_options.proofs.Listed.{gives-expressions}

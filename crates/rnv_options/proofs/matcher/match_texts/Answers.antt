@@ -1,4 +1,4 @@
-use Rattle.std.proofs.Common.{◌≡◌, sym, subst}
+use Rattle.std.proofs.Common.{sym, subst}
 use Rattle.serde_json.specs.View.{view}
 use Rattle.rnv_options.specs.Readings.{Tells}
 use Rattle.rnv_options.specs.Matchers.{match_texts}

@@ -1,4 +1,4 @@
-use Rattle.std.proofs.Common.{◌≡◌, [], ◌∷◌, ℕ, List, rules}
+use Rattle.std.proofs.Common.{rules}
 use Rattle.rnv_options.proofs.Asked.{tests-one}
 use Rattle.rnv_options.proofs.reading.one_pattern.Goals as goal
 

@@ -1,4 +1,4 @@
-use Rattle.std.proofs.Common.{◌≡◌, sym, ap, subst}
+use Rattle.std.proofs.Common.{sym, subst}
 use Rattle.rnv_options.specs.Readings.{Tells, told, value_of}
 use Rattle.rnv_options.specs.declared.kind.Values.{Values}
 use Rattle.serde_json.specs.View.{view}
