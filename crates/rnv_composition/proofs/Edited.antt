@@ -58,11 +58,7 @@ module _ (base : List MarkedFile) (picked : List PickedFile) where
     puts_edited : (b : Base) (w : Write) → PutsContent g b w → PutsEdited base picked w
     puts_edited b (SetBase repo changes) p = p
     puts_edited b (PutBranch repo branch) p = branch_edited b branch p
-    puts_edited b (DropBranch repo name) p = tt
-    puts_edited b (OpenRequest repo number branch updates title body labels made_at) p = tt
-    puts_edited b (EditRequest repo number updates title body labels) p = tt
-    puts_edited b (Autoclose repo number) p = tt
-    puts_edited b (Finish repo page) p = tt
+    puts_edited b w p = tt
 
     all_edited : (b : Base) (ws : List Write) → AllByRecursion (PutsContent g b) ws → AllByRecursion (PutsEdited base picked) ws
     all_edited b [] p = tt

@@ -65,21 +65,11 @@ flat_none h f none (x ∷ xs) = flat_map-append f (h x) (flat_map h xs) ∙ (ap 
 
 same_put : (n : ℕ) (w : Write) → put_of (with_number n w) ≡ put_of w
 same_put n (SetBase repo changes) = refl
-same_put n (PutBranch repo branch) = refl
-same_put n (DropBranch repo name) = refl
-same_put n (OpenRequest repo number branch updates title body labels made_at) = refl
-same_put n (EditRequest repo number updates title body labels) = refl
-same_put n (Autoclose repo number) = refl
-same_put n (Finish repo page) = refl
+same_put n w = refl
 
 same_opened : (n : ℕ) (w : Write) → opened_of (with_number n w) ≡ opened_of w
 same_opened n (SetBase repo changes) = refl
-same_opened n (PutBranch repo branch) = refl
-same_opened n (DropBranch repo name) = refl
-same_opened n (OpenRequest repo number branch updates title body labels made_at) = refl
-same_opened n (EditRequest repo number updates title body labels) = refl
-same_opened n (Autoclose repo number) = refl
-same_opened n (Finish repo page) = refl
+same_opened n w = refl
 
 numbered_same : (f : Write → List (List ℕ)) → ((n : ℕ) (w : Write) → f (with_number n w) ≡ f w) → (n : ℕ) (ws : List Write) → flat_map f (numbered n ws) ≡ flat_map f ws
 numbered_same f same n [] = refl

@@ -65,22 +65,12 @@ pub record AreRuns (files : List NamedFile) (name : List ℕ) (moment : ℕ) (ca
 
 -- the branch that a write puts, and the one on which it opens a request, if it does so
 abbrev pub put_of : Write → List (List ℕ)
-put_of (SetBase repo changes) = []
 put_of (PutBranch repo branch) = branch.name ∷ []
-put_of (DropBranch repo name) = []
-put_of (OpenRequest repo number branch updates title body labels made_at) = []
-put_of (EditRequest repo number updates title body labels) = []
-put_of (Autoclose repo number) = []
-put_of (Finish repo page) = []
+put_of w = []
 
 abbrev pub opened_of : Write → List (List ℕ)
-opened_of (SetBase repo changes) = []
-opened_of (PutBranch repo branch) = []
-opened_of (DropBranch repo name) = []
 opened_of (OpenRequest repo number branch updates title body labels made_at) = branch ∷ []
-opened_of (EditRequest repo number updates title body labels) = []
-opened_of (Autoclose repo number) = []
-opened_of (Finish repo page) = []
+opened_of w = []
 
 -- no branch is put twice, and on none two requests are opened
 pub record IsOnce (ws : List Write) : Type 0 where
@@ -95,11 +85,7 @@ HasEditedFiles base picked b = AllZip (IsEditedFile base b.name) (filter (is_edi
 abbrev pub PutsEdited : List MarkedFile → List PickedFile → Write → Type 0
 PutsEdited base picked (SetBase repo changes) = ⊥
 PutsEdited base picked (PutBranch repo branch) = HasEditedFiles base picked branch
-PutsEdited base picked (DropBranch repo name) = Unit {0}
-PutsEdited base picked (OpenRequest repo number branch updates title body labels made_at) = Unit {0}
-PutsEdited base picked (EditRequest repo number updates title body labels) = Unit {0}
-PutsEdited base picked (Autoclose repo number) = Unit {0}
-PutsEdited base picked (Finish repo page) = Unit {0}
+PutsEdited base picked w = Unit {0}
 
 -- what is gathered of the base, and each file that is put has the base's bytes but for it
 pub record ArePutEdited (files : List NamedFile) (base : List MarkedFile) (ws : List Write) : Type 0 where

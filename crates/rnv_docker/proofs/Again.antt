@@ -20,7 +20,7 @@ use Rattle.rnv_docker.specs.Stages.{Stage, is_same, has_prefix, is_platform, nam
 use Rattle.rnv_docker.specs.Images.{at_colon, is_plain_byte, is_no_slash, is_passed, is_tag, if_tag, tagged}
 use Rattle.rnv_docker.specs.Read.{is_ink}
 use Rattle.rnv_docker.specs.Grammar.{stage_of, continues, begin, name_of, place_of, slot, image_marks, line_marks, fed, plain_marks, marks, pieces, IsRead}
-use Rattle.rnv_docker.proofs.Tests.{if-true, if-false, and_true, both, or_false, neither, not_true, not_false, some_or_none, all-append, all-parts, all-fails, all-weaker}
+use Rattle.rnv_docker.proofs.Bools.{if-true, if-false, and_true, both, or_false, neither, not_true, not_false, some_or_none, all-append, all-parts, all-fails, all-weaker}
 use Rattle.rnv_docker.proofs.Lines.{goes_on-behind, goes_on-before, goes_on-no, is_comment-front, has_here-parts, has_here-no}
 use Rattle.rnv_docker.proofs.Words.{Stops, IsText, AreWords, words-spelled, words-are}
 use Rattle.rnv_docker.proofs.Images.{at_colon-at, at_colon-none, at_colon-whole, other-text}

@@ -9,7 +9,7 @@ use Rattle.std.proofs.lemmas.List.Splits.{slice_split_first, slice_split_none}
 use Rattle.std.proofs.lemmas.List.Sums.{fails_before_first}
 use Rattle.rnv_docker.specs.Lines.{lines}
 use Rattle.rnv_docker.specs.Read.{behind_feed, lines_of}
-use Rattle.rnv_docker.proofs.Tests.{if-true, if-false}
+use Rattle.rnv_docker.proofs.Bools.{if-true, if-false}
 
 -- the first line, and those behind it
 pub first-line : (text : List ℕ) → lines text ≡ before_first (λ x. nat_eq x 10) text ∷ lines_of (behind_feed text)

@@ -10,7 +10,7 @@ use Rattle.std.proofs.lemmas.List.{append-nil, take_at, get_or_at}
 use Rattle.std.proofs.lemmas.Option.{same_Some}
 use Rattle.rnv_docker.specs.Images.{parted, at_colon, is_plain_byte, is_passed, is_tag, if_tag, tagged}
 use Rattle.rnv_docker.specs.Read.{IsColon, IsTagged}
-use Rattle.rnv_docker.proofs.Tests.{if-true, if-false, and_true, both, neither, not_true, some_or_none}
+use Rattle.rnv_docker.proofs.Bools.{if-true, if-false, and_true, both, neither, not_true, some_or_none}
 
 -- behind a colon stands none
 pub at_colon-at : (front behind : List ℕ) → at_colon behind ≡ None → at_colon (front ++ 58 ∷ behind) ≡ Some (front, behind)

@@ -1,4 +1,5 @@
 mod Again
+mod Bools
 mod Feeds
 mod Images
 mod Lines
@@ -6,5 +7,4 @@ mod Parts
 mod Pieces
 mod Stages
 mod Steps
-mod Tests
 mod Words

@@ -5,7 +5,7 @@ use Rattle.std.specs.List.{list_all}
 use Rattle.std.proofs.lemmas.Bool.{cases_Bool}
 use Rattle.std.proofs.lemmas.Bool.Decides.{nat_tests}
 use Rattle.rnv_docker.specs.Lines.{is_blank, is_space, is_empty, is_comment, goes_on, begins_with, has_here}
-use Rattle.rnv_docker.proofs.Tests.{if-true, if-false, and_true, all-fails, neither}
+use Rattle.rnv_docker.proofs.Bools.{if-true, if-false, and_true, all-fails, neither}
 
 space-no-backslash : (x : ℕ) → is_space x ≡ true → nat_eq x 92 ≡ false
 space-no-backslash x e = grind (arith, nat_tests)

@@ -12,7 +12,7 @@ use Rattle.rnv_docker.specs.Words.{Words, spaces, word, spelled, words}
 use Rattle.rnv_docker.specs.Stages.{Stage, is_same, is_platform, is_name, naming, stage_with, imaging, flagged, stage}
 use Rattle.rnv_docker.specs.Images.{parted, at_colon, is_plain_byte, is_passed, is_tag, if_tag, tagged}
 use Rattle.rnv_docker.specs.Grammar.{stage_of, name_of}
-use Rattle.rnv_docker.proofs.Tests.{if-true, if-false, and_true, both, not_true, some_or_none, all-weaker}
+use Rattle.rnv_docker.proofs.Bools.{if-true, if-false, and_true, both, not_true, some_or_none, all-weaker}
 use Rattle.rnv_docker.proofs.Words.{Stops, AreWords, spelled-words, words-are}
 use Rattle.rnv_docker.proofs.Images.{at_colon-whole}
 

@@ -16,7 +16,7 @@ use Rattle.rnv_docker.specs.Stages.{Stage}
 use Rattle.rnv_docker.specs.Images.{tagged}
 use Rattle.rnv_docker.specs.Grammar.{stage_of, continues, begin, name_of, place_of, slot, image_marks, line_marks, fed, plain_marks, marks, pieces, IsRead}
 use Rattle.rnv_docker.specs.Read.{Tag, tag_of, tag_in, found_in, State, stepped, step, started, finish, run}
-use Rattle.rnv_docker.proofs.Tests.{all-append}
+use Rattle.rnv_docker.proofs.Bools.{all-append}
 use Rattle.rnv_docker.proofs.Words.{Stops, space-ascii}
 use Rattle.rnv_docker.proofs.Parts.{choose, Whole, stage_of-whole, Ends, stage_of-ends, is_plain_name, stage_of-plain, tagged-earlier, IsSplit, tagged-split}
 

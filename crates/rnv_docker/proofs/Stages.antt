@@ -6,7 +6,7 @@ use Rattle.std.specs.Option.{MatchOption}
 use Rattle.rnv_docker.specs.Words.{Words, spaces, word, words, spelled}
 use Rattle.rnv_docker.specs.Stages.{Stage, is_same, is_platform, naming, stage_with, imaging, flagged, stage}
 use Rattle.rnv_docker.specs.Read.{IsFirst, HasStage}
-use Rattle.rnv_docker.proofs.Tests.{if-true, if-false, some_or_none}
+use Rattle.rnv_docker.proofs.Bools.{if-true, if-false, some_or_none}
 use Rattle.rnv_docker.proofs.Words.{spelled-words}
 
 -- what a call gave is that stage

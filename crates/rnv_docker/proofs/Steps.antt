@@ -3,7 +3,7 @@ use Rattle.std.proofs.Common.{◌≡◌, ℕ, suc, ◌+◌, ◌-◌, ◌≤◌, 
 use denote.Ref.{Bor}
 use Rattle.std.specs.Option.{MatchOption, option_copied}
 use Rattle.rnv_docker.specs.Lines.{lines, has_here}
-use Rattle.rnv_docker.proofs.Tests.{if-true, if-false}
+use Rattle.rnv_docker.proofs.Bools.{if-true, if-false}
 use Rattle.std.specs.Prelude.{codes}
 use Rattle.rnv_manager.specs.Finds.{Find}
 use Rattle.rnv_docker.specs.Stages.{Stage}

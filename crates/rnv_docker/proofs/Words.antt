@@ -9,7 +9,7 @@ use Rattle.std.proofs.lemmas.Str.{IsCharBoundary-before_ascii, IsCharBoundary-af
 use Rattle.rnv_docker.specs.Lines.{is_space}
 use Rattle.rnv_docker.specs.Words.{Words, spaces, word, spelled, spaced, lettered, words}
 use Rattle.rnv_docker.specs.Read.{skip, is_ink, IsFirst}
-use Rattle.rnv_docker.proofs.Tests.{if-true, if-false, and_true, both, all-at}
+use Rattle.rnv_docker.proofs.Bools.{if-true, if-false, and_true, both, all-at}
 
 -- a word ends before it
 abbrev pub Stops : List ℕ → Type 0

@@ -6,6 +6,8 @@ mod line;
 mod manager;
 mod reading;
 mod stage;
+#[cfg(test)]
+mod tests;
 mod word;
 
 pub use manager::{DockerManager, keeps_tags};

@@ -103,21 +103,11 @@ named_if r o name false is rest = rest
 
 named_in : (w : Write) (r : Repo) → (applied_in w r).name ≡ r.name
 named_in (SetBase repo changes) r = refl
-named_in (PutBranch repo branch) r = refl
-named_in (DropBranch repo name) r = refl
-named_in (OpenRequest repo number branch updates title body labels made_at) r = refl
-named_in (EditRequest repo number updates title body labels) r = refl
-named_in (Autoclose repo number) r = refl
-named_in (Finish repo page) r = refl
+named_in w r = refl
 
 named_begun : (w : Write) → (begun w).name ≡ repo_of w
 named_begun (SetBase repo changes) = refl
-named_begun (PutBranch repo branch) = refl
-named_begun (DropBranch repo name) = refl
-named_begun (OpenRequest repo number branch updates title body labels made_at) = refl
-named_begun (EditRequest repo number updates title body labels) = refl
-named_begun (Autoclose repo number) = refl
-named_begun (Finish repo page) = refl
+named_begun w = refl
 
 named_so : (w : Write) (o : Option Repo) → IfSome o (λ r. r.name ≡ repo_of w) → (applied_to w o).name ≡ repo_of w
 named_so w None n = named_begun w

@@ -24,21 +24,11 @@ all_put P key x (y ∷ ys) h a =
 
 in_more : (w : Write) (r : Repo) (n : ℕ) → r.revision ≤ n → (applied_in w r).revision ≤ n + 1
 in_more (SetBase repo changes) r n le = omega (arith, le)
-in_more (PutBranch repo branch) r n le = omega (arith, le)
-in_more (DropBranch repo name) r n le = omega (arith, le)
-in_more (OpenRequest repo number branch updates title body labels made_at) r n le = omega (arith, le)
-in_more (EditRequest repo number updates title body labels) r n le = omega (arith, le)
-in_more (Autoclose repo number) r n le = omega (arith, le)
-in_more (Finish repo page) r n le = omega (arith, le)
+in_more w r n le = omega (arith, le)
 
 begun_more : (w : Write) (n : ℕ) → (begun w).revision ≤ n + 1
 begun_more (SetBase repo changes) n = omega arith
-begun_more (PutBranch repo branch) n = omega arith
-begun_more (DropBranch repo name) n = omega arith
-begun_more (OpenRequest repo number branch updates title body labels made_at) n = omega arith
-begun_more (EditRequest repo number updates title body labels) n = omega arith
-begun_more (Autoclose repo number) n = omega arith
-begun_more (Finish repo page) n = omega arith
+begun_more w n = omega arith
 
 to_more : (w : Write) (o : Option Repo) (n : ℕ) → IfSome o (λ r. r.revision ≤ n) → (applied_to w o).revision ≤ n + 1
 to_more w None n h = begun_more w n

@@ -4,6 +4,8 @@
 mod changes;
 mod events;
 mod json;
+#[cfg(test)]
+mod tests;
 mod told;
 
 pub use told::{BodyError, Told, read_told};

@@ -10,6 +10,7 @@ pub mod Keeps
 pub mod Numbers
 pub mod Ones
 pub mod Steps
+pub mod Turns
 pub mod Uses
 pub mod Writes
 pub mod Wrong

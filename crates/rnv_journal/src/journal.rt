@@ -3,6 +3,7 @@ ghost use Rattle.rnv_base.specs.Causes.{FaultsBy};
 ghost use Rattle.rnv_disk.specs.Stops.{LeftNow, LeavesOnly};
 ghost use Rattle.rnv_journal.specs.File.{end_of, counted};
 ghost use Rattle.rnv_journal.specs.Found.{strings};
+ghost use Rattle.rnv_journal.specs.Front.{IsFront, StandsSince, IsStopped};
 ghost use Rattle.rnv_journal.specs.Held.{IsTooLong, appended};
 ghost use Rattle.rnv_journal.specs.Reading.{ReadsAs};
 ghost use Rattle.rnv_journal.specs.Readings.{KeepsOne, KeepsReadings, ReadsOnly, IsAtRest, IsOldOrAppended};
@@ -208,6 +209,30 @@ impl Journal {
                 Err(AppendError::DiskFault)
             }
         }
+    }
+
+    /// Appends all prepared byte strings, in order, as `append_next` does each; there may be none. The
+    /// journal is not closed, and the disk is at rest at its entries. A stop at any moment leaves the
+    /// entries and the first of these byte strings, however many, and never fewer of them later.
+    /// `DiskFault` only where the disk counted a fault; then the journal is closed, with the byte
+    /// strings that were appended before among its entries. No other refusal.
+    pub fn append_all<D: Disk>(&mut self, disk: &mut D) -> Result<(), AppendError>
+        requires not_closed { self.old.closed ≡ false }
+        requires at_rest { IsAtRest self.old.limit (D.past disk.old) self.old.entries }
+        ensures any_moment { ReadsOnly self.old.limit (D.past disk.old) (D.past disk.new) (IsFront self.old 0) }
+        // What was appended is in every reading from then on.
+        ensures never_fewer { (k : ℕ) → k + length self.new.prepared ≤ length self.old.prepared
+            → StandsSince self.old (D.past disk.old) (D.past disk.new) k }
+        ensures at_rest { OnOk result (IsAtRest self.old.limit (D.past disk.new) self.new.entries) }
+        ensures ok { OnOk result (self.new ≡ record self.old { entries = self.old.entries ++ self.old.prepared; prepared = [] }) }
+        ensures err { OnErr result (IsStopped self.old self.new) }
+        ensures fault { IfErr result (λ error. error ≡ AppendError.DiskFault) }
+        ensures cause { FaultsBy (D.faults disk.old) (D.faults disk.new) result AppendError.DiskFault }
+    {
+        for _ in 0..self.prepared() {
+            self.append_next(disk)?;
+        }
+        Ok(())
     }
 
     // Moves the first prepared byte string to the end of the entries.

@@ -2,6 +2,8 @@
 #![tactic(auto)]
 
 mod append;
+#[cfg(test)]
+mod append_tests;
 mod head;
 mod journal;
 mod line;

@@ -17,22 +17,12 @@ eligible_over g repo (Some i) = if is_eligible i (view g repo i) then i ∷ [] e
 
 -- the item whose branch a write puts, if it is an eligible one
 abbrev pub eligible_put : Given → Repo → Write → List Item
-eligible_put g repo (SetBase name changes) = []
 eligible_put g repo (PutBranch name branch) = eligible_over g repo (item_at branch.name g.items)
-eligible_put g repo (DropBranch name branch) = []
-eligible_put g repo (OpenRequest name number branch updates title body labels made_at) = []
-eligible_put g repo (EditRequest name number updates title body labels) = []
-eligible_put g repo (Autoclose name number) = []
-eligible_put g repo (Finish name page) = []
+eligible_put g repo w = []
 
 abbrev pub is_end : Write → Bool
-is_end (SetBase name changes) = false
-is_end (PutBranch name branch) = false
-is_end (DropBranch name branch) = false
-is_end (OpenRequest name number branch updates title body labels made_at) = false
-is_end (EditRequest name number updates title body labels) = false
-is_end (Autoclose name number) = false
 is_end (Finish name page) = true
+is_end w = false
 
 abbrev pub is_in_work : Given → Repo → Item → Bool
 is_in_work g repo i = is_worked (is_chosen g repo i) i (view g repo i)

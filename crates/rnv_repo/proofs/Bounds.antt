@@ -61,12 +61,7 @@ within_in (Finish repo page) r n e h = record { revision = omega (arith, h.revis
 
 within_begun : (w : Write) (n : ℕ) → IsWithin (n + 1) (begun w)
 within_begun (SetBase repo changes) n = record { revision = omega arith; numbers = tt }
-within_begun (PutBranch repo branch) n = record { revision = omega arith; numbers = tt }
-within_begun (DropBranch repo name) n = record { revision = omega arith; numbers = tt }
-within_begun (OpenRequest repo number branch updates title body labels made_at) n = record { revision = omega arith; numbers = tt }
-within_begun (EditRequest repo number updates title body labels) n = record { revision = omega arith; numbers = tt }
-within_begun (Autoclose repo number) n = record { revision = omega arith; numbers = tt }
-within_begun (Finish repo page) n = record { revision = omega arith; numbers = tt }
+within_begun w n = record { revision = omega arith; numbers = tt }
 
 within_to : (w : Write) (o : Option Repo) (n : ℕ) → refusal_to w o ≡ None → IfSome o (IsWithin n) → IsWithin (n + 1) (applied_to w o)
 within_to w None n e h = within_begun w n

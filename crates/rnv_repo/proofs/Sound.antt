@@ -338,12 +338,7 @@ sound_empty name ok = record {
 
 sound_begun : (w : Write) → IsOrderly w → refusal_unknown w ≡ None → IsSound (begun w)
 sound_begun (SetBase name changes) o e = sound_base 1 changes (empty_repo name) (omega arith) o.order (sound_empty name o.name)
-sound_begun (PutBranch name branch) o e = absurd cc
-sound_begun (DropBranch name branch) o e = absurd cc
-sound_begun (OpenRequest name number branch updates title body labels made_at) o e = absurd cc
-sound_begun (EditRequest name number updates title body labels) o e = absurd cc
-sound_begun (Autoclose name number) o e = absurd cc
-sound_begun (Finish name page) o e = absurd cc
+sound_begun w o e = absurd cc
 
 pub sound_to : (w : Write) (known : Option Repo) → IsOrderly w → refusal_to w known ≡ None → IfSome known IsSound → IsSound (applied_to w known)
 sound_to w None o e s = sound_begun w o e

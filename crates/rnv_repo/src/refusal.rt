@@ -1,5 +1,5 @@
 /// Why a write is not permitted.
-#[derive(Clone, Copy, Debug, PartialEq, Eq)]
+#[derive(Debug, Drop, PartialEq, Eq)]
 pub enum Refusal {
     /// No repository has the name.
     UnknownRepo,

@@ -197,16 +197,20 @@ fn refusal(alloc: Global, write: &Write) -> Result<Option<Refusal>, Fail> {
     }
 }
 
+// The refusal for this live request.
+fn live(number: u32) -> Refusal {
+    Refusal::HasLiveRequest { number }
+}
+
 #[test]
 fn refusals_in_their_order(rt: HostRuntime) -> Result<(), Fail> {
     let alloc = rt.alloc();
-    let is_live = Refusal::HasLiveRequest { number: 1 };
     for (write, wanted) in [
         (set_base(alloc, b"{}")?, Refusal::NoChange),
         (drop_branch(alloc, Z)?, Refusal::NoBranch),
-        (drop_branch(alloc, X)?, is_live),
+        (drop_branch(alloc, X)?, live(1)),
         (open(alloc, 1, Z)?, Refusal::NoBranch),
-        (open(alloc, 1, X)?, is_live),
+        (open(alloc, 1, X)?, live(1)),
         (open(alloc, 1, Y)?, Refusal::NumberTaken { number: 1 }),
         (open(alloc, 3, Y)?, Refusal::NumberTaken { number: 3 }),
         (edit(alloc, 2)?, Refusal::NotLive { number: 2 }),

@@ -1,0 +1,5 @@
+pub mod Ages
+pub mod Asked
+pub mod Joined
+pub mod Listed
+pub mod Turned
