@@ -1,5 +1,5 @@
 -- The test of a path decides what the words say.
-use Rattle.std.proofs.Common.{◌≤◌, ◌==◌, ℕ, List, length, codes, nat_le, IsTrue, refl, arith, rules}
+use Rattle.std.proofs.Common.{◌≤◌, ℕ, List, length, codes, nat_le, refl, arith}
 use Rattle.std.specs.Bool.{Decides}
 use Rattle.std.specs.List.{list_all}
 use Rattle.std.specs.Str.{IsUtf8, is_utf8}

@@ -1,5 +1,5 @@
 -- The grammar of a body: a JSON object with an id, an event's word, and what that event needs.
-use Rattle.std.specs.Prelude.{◌≡◌, ◌≢◌, ℕ, nat_le, Bool, ◌&&◌, if◌then◌else◌, is_some, List, [], ◌∷◌, length, codes, Option, None, Some, Result, Ok, Err, option_and_then, option_map}
+use Rattle.std.specs.Prelude.{ℕ, nat_le, Bool, ◌&&◌, if◌then◌else◌, is_some, List, [], ◌∷◌, length, codes, Option, None, Some, Result, Ok, Err, option_and_then, option_map}
 use Rattle.std.specs.List.{list_all}
 use Rattle.std.specs.Str.{bytes_eq}
 use Rattle.serde_json.specs.Data.{Data, null, boolean, number, string, array, object, Members, no_members, member}

@@ -41,6 +41,7 @@ bad id|{"id":1,"event":"page","text":"t"}
 bad id|{"id":"","event":"page","text":"t"}
 bad id|{"id":"a b","event":"page","text":"t"}
 bad id|{"id":"\u00e4","event":"page","text":"t"}
+bad id|{"id":"d1","id":"a b","event":"page","text":"t"}
 bad event|{"id":"d1"}
 bad event|{"id":"d1","event":"Push","changes":{}}
 bad event|{"id":"d1","event":null}
