@@ -3,6 +3,7 @@ pub mod Causes
 pub mod Civil
 pub mod Files
 pub mod Kinds
+pub mod Limits
 pub mod Moment
 pub mod Names
 pub mod Turns

@@ -8,6 +8,7 @@ mod failed;
 mod failing;
 mod folder;
 mod kinds;
+mod limits;
 mod list;
 mod mem_folder;
 mod mem_sink;
@@ -27,6 +28,10 @@ pub use failed::Failed;
 pub use failing::Failing;
 pub use folder::{Folder, FolderError};
 pub use kinds::{ManagerKind, SourceKind, Strategy, UpdateKind, kinds_rise};
+pub use limits::{
+    BASE_BYTES, BASE_FILES, DOCUMENT_BYTES, MOST_DEPENDENCIES, MOST_ITEMS, MOST_RELEASES,
+    MOST_RULES, STORE_BYTES,
+};
 pub use list::List;
 pub use mem_folder::{MemFile, MemFolder};
 pub use mem_sink::MemSink;

@@ -1,22 +1,12 @@
 -- Lists in the order of a text: files by path, branches and repositories by name.
-use Rattle.std.specs.Prelude.{ℕ, not, List, [], ◌∷◌, All, Option}
+use Rattle.std.specs.Prelude.{ℕ, not, List, [], ◌∷◌, Option}
 use Rattle.std.specs.List.{filter, find}
-use Rattle.std.specs.List.Sorted.{IsStrictlySortedBy}
 use Rattle.std.specs.declared.cmp.Ordering.{Ordering}
 use Rattle.std.specs.declared.cmp.Ordering.TheVariants.{Less, Equal, Greater}
-use Rattle.std.specs.Ordering.{on, nat_cmp}
+use Rattle.std.specs.Ordering.{nat_cmp}
 use Rattle.std.specs.Cmp.Lexicographic.{slice_cmp}
 use Rattle.std.specs.Str.{bytes_eq}
-use Rattle.rnv_base.specs.Names.{IsPath}
-
--- each is below those after it
-abbrev pub IsRisingBy : {X : Type 0} → (X → List ℕ) → List X → Type 0
-IsRisingBy key xs = IsStrictlySortedBy (on key (slice_cmp nat_cmp)) xs
-
--- paths that rise
-pub record AreInOrder {X : Type 0} (path : X → List ℕ) (xs : List X) : Type 0 where
-  pub each : All (λ x. IsPath (path x)) xs
-  pub rising : IsRisingBy path xs
+pub use Rattle.rnv_base.specs.Files.{AreInOrder, IsRisingBy}
 
 -- the one of this name
 abbrev pub at : {X : Type 0} → (X → List ℕ) → List ℕ → List X → Option X
