@@ -29,8 +29,6 @@ const TWO_PLAN: &str =
 
 const NO_PLAN: &str = "now 2024-06-03T10:15:00Z\n0 updates, 0 branches\n";
 
-const NOT_BUILT: &str = "error 15: package.json is not built yet\n";
-
 const UNKNOWN: &str = "error 3: unknown repository\n";
 
 // The words between the spaces of a line.
@@ -95,8 +93,8 @@ const PLANS: [(&[File], u8, &str); 17] = [
             REACT,
             (PACKAGE, "{\"dependencies\":{\"react\":\"^18.2.0\"}}"),
         ],
-        15,
-        NOT_BUILT,
+        0,
+        "now 2024-06-03T10:15:00Z\npackage.json react ^18.2.0 -> ^19.0.0 (major) renovate/react-19.x\n1 updates, 1 branches\n",
     ),
     (&[REACT, (PACKAGE, "{\"a\":1")], 0, NO_PLAN),
     (

@@ -64,7 +64,7 @@ module _ (base : List MarkedFile) (picked : List PickedFile) where
     all_edited b [] p = tt
     all_edited b (w ∷ ws) p = (puts_edited b w p.0, all_edited b ws p.1)
 
-pub put_edited : (files : List NamedFile) (moment : ℕ) (first : Repo) (g : Given) → IsGiven (Unit {0}) files first.files moment g → IsFit g → ArePutEdited files first.files (steps g first)
+pub put_edited : (files : List NamedFile) (moment : ℕ) (first : Repo) (g : Given) → IsGiven (Unit {0}) files first.files moment g → IsFit g → ArePutEdited files moment first.files (steps g first)
 put_edited files moment first g is fit = record {
   picked = is.picked;
   gathered = is.gathered tt;

@@ -87,10 +87,10 @@ PutsEdited base picked (SetBase repo changes) = ⊥
 PutsEdited base picked (PutBranch repo branch) = HasEditedFiles base picked branch
 PutsEdited base picked w = Unit {0}
 
--- what is gathered of the base, and each file that is put has the base's bytes but for it
-pub record ArePutEdited (files : List NamedFile) (base : List MarkedFile) (ws : List Write) : Type 0 where
+-- what is gathered of the base at a moment, and each file that is put has the base's bytes but for it
+pub record ArePutEdited (files : List NamedFile) (moment : ℕ) (base : List MarkedFile) (ws : List Write) : Type 0 where
   pub picked : List PickedFile
-  pub gathered : IsGathered files base picked
+  pub gathered : IsGathered files moment base picked
   pub each : AllByRecursion (PutsEdited base picked) ws
 
 -- all was done, though its text may have been printed in part
@@ -108,7 +108,7 @@ pub record Compose (files : List NamedFile) (name : List ℕ) (moment : ℕ) (st
   pub settled : IsDone (calls n).code → IsAtRest 268435456 (calls n).sight.exit (map spelling (start ++ steps g first))
   pub once : IsOnce (steps g first)
   pub outcome : IsDone (calls n).code → LeavesOutcome g name first (start ++ steps g first)
-  pub edited : IsDone (calls n).code → ArePutEdited files first.files (steps g first)
+  pub edited : IsDone (calls n).code → ArePutEdited files moment first.files (steps g first)
 
 -- ---- from any disk that has readings
 
@@ -133,7 +133,7 @@ pub record IsSettled (files : List NamedFile) (name : List ℕ) (moment : ℕ) (
   pub at_rest : IsAtRest 268435456 exit (map spelling (start ++ steps given first))
   pub outcome : LeavesOutcome given name first (start ++ steps given first)
   pub once : IsOnce (steps given first)
-  pub edited : ArePutEdited files first.files (steps given first)
+  pub edited : ArePutEdited files moment first.files (steps given first)
 
 -- What the runs make together of a disk that has readings, also of one where an import was stopped.
 pub record ComposeFrom (files : List NamedFile) (name : List ℕ) (moment : ℕ) (calls : ℕ → Call) (n : ℕ) : Type 0 where

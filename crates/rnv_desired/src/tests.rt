@@ -2,7 +2,7 @@ use crate::texts::title;
 use crate::{desired, givens, one_desired};
 use rnv_base::{Bytes, List, ManagerKind, MemFile, MemFolder, SourceKind, Text, UpdateKind};
 use rnv_outcome::{Item, ItemEdits};
-use rnv_pick::{Dep, Update};
+use rnv_pick::{Dep, Update, UpdateOptions};
 use rnv_plan::gather_folder;
 use std::alloc::{AllocError, Global};
 use std::convert::{AsSlice, AsStr};
@@ -117,10 +117,18 @@ fn update(alloc: Global, version: &str, kind: UpdateKind) -> Result<Update, Allo
             package: Text::copied(alloc, "a")?,
             value: Text::copied(alloc, "1.0.0")?,
             start: 0,
+            current: None,
         },
         new_version: Text::copied(alloc, version)?,
         new_value: Text::copied(alloc, version)?,
         kind,
+        pending: false,
+        split_major: true,
+        split_patch: false,
+        options: UpdateOptions {
+            enabled: true,
+            age: None,
+        },
     })
 }
 

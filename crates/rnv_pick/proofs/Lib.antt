@@ -1,3 +1,10 @@
-pub mod Greatest
-pub mod OneChoice
-pub mod Taken
+pub mod Bests
+pub mod Listings
+pub mod Falling
+pub mod Kept
+pub mod Chosen
+pub mod Rising
+pub mod ToChosen
+pub mod OneAnswer
+pub mod Own
+pub mod Unread

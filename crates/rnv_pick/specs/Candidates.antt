@@ -1,31 +1,47 @@
 -- The releases of a package that may be chosen for a dependency.
-use Rattle.std.specs.Prelude.{ℕ, List, length, Bool, ◌&&◌, ◌||◌, ◌==◌, not, if◌then◌else◌, Option, Some, None, option_and_then}
-use Rattle.std.specs.List.{filter_map}
-use Rattle.std.specs.Ordering.{is_lt}
-use Rattle.rnv_version.specs.SemVer.{Version, version_cmp}
-use Rattle.rnv_npm.specs.Version.{npm_version}
-use Rattle.rnv_release.specs.declared.release.Release.{Release}
+use Rattle.std.specs.Prelude.{◌≡◌, ℕ, true, Bool, not, ◌&&◌, ◌||◌, List, Option, Some}
+use Rattle.std.specs.List.{Contains}
+use Rattle.std.specs.Ordering.{is_lt, on}
+use Rattle.std.specs.declared.cmp.Ordering.{Ordering}
+use Rattle.rnv_base.specs.declared.kinds.UpdateKind.{UpdateKind}
+use Rattle.rnv_version.specs.Numbering.{Numbering}
+use Rattle.rnv_pick.specs.declared.allowance.Allowance.{Allowance}
+use Rattle.rnv_pick.specs.declared.dep.Dep.{Dep}
+use Rattle.rnv_pick.specs.declared.options.DepOptions.{DepOptions}
+use Rattle.rnv_pick.specs.Allowing.{admits, allowance_of}
+use Rattle.rnv_pick.specs.Listing.{Listed, listed_cmp}
 
--- a release's text, and the version that it is
-pub record Candidate : Type 0 where
-  pub text : List ℕ
-  pub version : Version
+-- a dependency with its options, and the version that its candidates are above
+pub record Aim (V : Type 0) : Type 0 where
+  pub dep : Dep
+  pub options : DepOptions
+  pub start : V
 
--- without a pre-release
-abbrev pub is_stable : Version → Bool
-is_stable v = length v.pre == 0
+-- comparable with the start and greater, and stable unless the start is not
+abbrev pub is_above : {V R : Type 0} → Numbering V R → V → V → Bool
+is_above n start v = n.are_comparable start v && is_lt (n.order start v) && (n.is_stable v || not (n.is_stable start))
 
--- a release of this version is not drawn back, above the start, and stable unless the start is not
-abbrev pub is_wanted : Version → Release → Version → Bool
-is_wanted start release v = not release.yanked && is_lt (version_cmp start v) && (is_stable v || not (is_stable start))
+abbrev pub is_wanted_by : {V R : Type 0} → Numbering V R → V → Allowance R → Listed V → Bool
+is_wanted_by n start allowance c = is_above n start c.version && admits n allowance c.release.text c.version
 
-abbrev pub if_wanted : Version → Release → Version → Option Candidate
-if_wanted start release v = if is_wanted start release v then Some (record { text = release.text; version = v }) else None
+-- above the start, and allowed
+abbrev pub is_wanted : {V R : Type 0} → Numbering V R → Aim V → Listed V → Bool
+is_wanted n aim c = is_wanted_by n aim.start (allowance_of n aim.options.allowed) c
 
--- the release as a candidate: its text is a version, and it is wanted
-unfoldable pub candidate_of : Version → Release → Option Candidate
-candidate_of start release = option_and_then (if_wanted start release) (npm_version release.text)
+-- a release and what is written for it
+pub record Offer (V : Type 0) : Type 0 where
+  pub listed : Listed V
+  pub new_value : List ℕ
 
--- all candidates
-abbrev pub candidates : Version → List Release → List Candidate
-candidates start releases = filter_map (candidate_of start) releases
+-- one of the releases that is wanted and has a new text
+pub record IsCandidate {V R : Type 0} (n : Numbering V R) (aim : Aim V) (found : List (Listed V)) (o : Offer V) : Type 0 where
+  pub among : Contains found o.listed
+  pub wanted : is_wanted n aim o.listed ≡ true
+  pub new_value : n.new_text aim.options.strategy aim.dep.value o.listed.release.text ≡ Some o.new_value
+
+-- how far the update goes
+abbrev pub kind_of : {V R : Type 0} → Numbering V R → Aim V → Listed V → UpdateKind
+kind_of n aim c = n.kind_between aim.start c.version
+
+abbrev pub offer_cmp : {V R : Type 0} → Numbering V R → Offer V → Offer V → Ordering
+offer_cmp {V} n = on (λ (o : Offer V). o.listed) (listed_cmp n)

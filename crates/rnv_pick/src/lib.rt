@@ -1,19 +1,25 @@
-//! The updates of a dependency: which of the releases of its package are chosen, and what is
-//! written for them.
+//! The updates of a dependency over the versioning of its source: its current version, why it is
+//! skipped, which releases are chosen, and what is written for them.
 #![tactic(auto)]
 
+mod allowance;
 mod bucket;
-mod candidate;
+mod by_source;
+mod choice;
 mod choosing;
 mod dep;
+mod live;
+mod options;
 mod picking;
+mod rules;
+mod target;
 #[cfg(test)]
 mod tests;
 mod update;
+mod wanted;
 
-pub use bucket::Bucket;
-pub use candidate::Candidate;
-pub use choosing::{ByBucket, choices};
+pub use by_source::{is_range, one_answer, updates};
 pub use dep::Dep;
-pub use picking::{one_list, updates};
-pub use update::Update;
+pub use options::{Allowed, DepOptions, UpdateOptions};
+pub use rules::Rules;
+pub use update::{Picked, Skip, Update};

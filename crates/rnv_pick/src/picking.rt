@@ -1,98 +1,370 @@
-ghost use Rattle.std.specs.Prelude.{◌≡◌, ◌++◌, map, List, Option, OnOk, IfOk};
-ghost use Rattle.std.specs.Option.{option_copied, option_to_list};
-ghost use Rattle.rnv_pick.specs.Updates.{update_of, AreUpdates, AreChosen, HasOneList};
-ghost use Rattle.rnv_pick.specs.declared.dep.Dep.{Dep};
-ghost use Rattle.rnv_release.specs.declared.release.Release.{Release};
+// The updates of a dependency, over one versioning.
 
-use crate::{ByBucket, Candidate, Dep, Update, choices};
-use rnv_base::{List, Share};
-use rnv_npm::{ExactValue, NpmVersioning};
+ghost use Rattle.std.specs.Prelude.{◌≡◌, ◌++◌, [], Some, None, All, map, IfOk, OnOk, is_none, is_some, unwrap_or, not, ◌&&◌, if◌then◌else◌};
+ghost use Rattle.std.specs.List.{flat_map};
+ghost use Rattle.std.specs.Option.{option_copied};
+ghost use Rattle.rnv_pick.specs.Buckets.{buckets};
+ghost use Rattle.rnv_pick.specs.Choices.{chosen_from};
+ghost use Rattle.rnv_pick.specs.Listing.{IsGreatestIn, IsNamed};
+ghost use Rattle.rnv_pick.specs.Options.{with_current};
+ghost use Rattle.rnv_pick.specs.Seen.{aim_of, seen};
+ghost use Rattle.rnv_pick.specs.Updates.{AreToChosen, AreUnlessSkipped, AreUpdates, AreUpdatesAt, AreUpdatesFrom, IsCurrent, IsCurrentIn, IsPicked, enabled_update, is_bump, is_pin, late_skip, pin_updates, skip_of, start_of, updates_to};
+
+use crate::allowance::range_of;
+use crate::bucket::buckets;
+use crate::choice::Choice;
+use crate::choosing::chosen;
+use crate::dep::share_text;
+use crate::live::{Live, greatest_in, live_releases};
+use crate::target::Target;
+use crate::wanted::ranked;
+use crate::{Dep, DepOptions, Picked, Rules, Skip, Update};
+use rnv_base::{List, Share, Strategy, Text, UpdateKind};
 use rnv_release::Release;
-use rnv_version::Versioning;
+use rnv_version::{VersionError, Versioning};
 use std::alloc::{AllocError, Global};
 use std::convert::{AsSlice, AsStr};
 
-/// The updates of a dependency, in rising order of version: the greatest candidate with the first
-/// number of its version, and the greatest of the others. None where its package has no document, or
-/// its value names no version exactly. Only memory can fail.
-pub fn updates(
-    alloc: Global,
-    dep: &Dep,
-    releases: Option<&List<Release>>,
-) -> Result<List<Update>, AllocError>
-    ensures { IfOk result (AreUpdates dep.now (option_copied releases.entry)) }
-{
-    let Some(releases) = releases else {
-        return Ok(List::empty(alloc));
-    };
-    match NpmVersioning.exact_value(alloc, dep.value.as_str())? {
-        Some(value) => chosen(alloc, dep, &value, releases.as_slice()),
-        None => Ok(List::empty(alloc)),
-    }
-}
-
-// The updates of a dependency of this exact value.
-fn chosen(
-    alloc: Global,
-    dep: &Dep,
-    value: &ExactValue,
-    releases: &[Release],
-) -> Result<List<Update>, AllocError>
-    ensures { IfOk result (AreChosen dep.now value.now releases.now) }
-{
-    let chosen = choices(alloc, &value.version, releases)?;
-    both(alloc, dep, value, &chosen)
-}
-
-// The updates to the choices, as far as there are.
-#[tactic(auto, using(std::proofs::lemmas::Grind::common_steps, crate::proofs::Taken::map_two))]
-fn both(
-    alloc: Global,
-    dep: &Dep,
-    value: &ExactValue,
-    chosen: &ByBucket,
-) -> Result<List<Update>, AllocError>
-    ensures { IfOk result (λ updates. updates ≡ map (update_of dep.now value.now) (option_to_list chosen.now.rest ++ option_to_list chosen.now.major)) }
-{
-    let mut updates = List::empty(alloc);
-    add(alloc, dep, value, &chosen.rest, &mut updates)?;
-    add(alloc, dep, value, &chosen.major, &mut updates)?;
-    Ok(updates)
-}
-
-// Puts the update to the candidate, if there is one, at the end.
+// Puts the update to a choice at the end, unless it is not enabled.
 fn add(
     alloc: Global,
     dep: &Dep,
-    value: &ExactValue,
-    candidate: &Option<Candidate>,
+    options: &DepOptions,
+    choice: Choice,
     updates: &mut List<Update>,
 ) -> Result<(), AllocError>
-    ensures { OnOk result (updates.new ≡ updates.old ++ map (update_of dep.now value.now) (option_to_list candidate.now)) }
+    ensures { OnOk result (updates.new ≡ updates.old ++ enabled_update dep.now options.now choice) }
 {
-    if let Some(candidate) = candidate {
-        updates.push(update(alloc, dep, value, candidate)?)?;
+    if !choice.options.enabled {
+        return Ok(());
     }
+    let Choice {
+        new_version,
+        new_value,
+        kind,
+        pending,
+        options: at_update,
+    } = choice;
+    updates.push(Update {
+        dep: dep.share(alloc)?,
+        new_version,
+        new_value,
+        kind,
+        pending,
+        split_major: options.split_major,
+        split_patch: options.split_patch,
+        options: at_update,
+    })?;
     Ok(())
 }
 
-fn update(
+// The same of what may be a choice.
+fn add_chosen(
     alloc: Global,
     dep: &Dep,
-    value: &ExactValue,
-    candidate: &Candidate,
-) -> Result<Update, AllocError>
-    ensures { IfOk result (λ update. update ≡ update_of dep.now value.now candidate.now) }
+    options: &DepOptions,
+    choice: Option<Choice>,
+    updates: &mut List<Update>,
+) -> Result<(), AllocError>
+    ensures { OnOk result (updates.new ≡ updates.old ++ updates_to dep.now options.now choice) }
 {
-    Ok(Update {
-        dep: dep.share(alloc)?,
-        new_version: candidate.text.share(alloc)?,
-        new_value: NpmVersioning.with_version(alloc, value, &candidate.version)?,
-        kind: NpmVersioning.kind(&value.version, &candidate.version),
+    match choice {
+        Some(choice) => add(alloc, dep, options, choice, updates),
+        None => Ok(()),
+    }
+}
+
+// The updates to what is chosen of each bucket.
+fn to_each<V: Versioning, O: Rules>(
+    alloc: Global,
+    versioning: &V,
+    rules: &O,
+    moment: u64,
+    target: &Target<'_, V::Version, V::Range>,
+    ranked: &[Live<'_, V::Version>],
+) -> Result<List<Update>, AllocError>
+    requires value { (V.numbering versioning.now).range_of target.now.dep.now.value ≡ Some target.now.range.now }
+    requires versions { All (λ l. IsNamed (V.numbering versioning.now) (seen l)) ranked.now }
+    ensures { IfOk result (λ updates. updates ≡ flat_map (λ b. updates_to target.now.dep.now target.now.options.now (chosen_from (V.numbering versioning.now) (O.options rules.now) moment (aim_of target.now) b None (map seen ranked.now))) (buckets target.now.options.now)) }
+{
+    let mut updates = List::empty(alloc);
+    let all = buckets(target.options);
+    for bucket in all {
+        let choice = chosen(alloc, versioning, rules, moment, target, *bucket, ranked)?;
+        add_chosen(alloc, target.dep, target.options, choice, &mut updates)?;
+    }
+    Ok(updates)
+}
+
+// The updates to the chosen candidates.
+fn to_chosen<V: Versioning, O: Rules>(
+    alloc: Global,
+    versioning: &V,
+    rules: &O,
+    moment: u64,
+    target: &Target<'_, V::Version, V::Range>,
+    found: Vec<Live<'_, V::Version>>,
+) -> Result<List<Update>, AllocError>
+    requires value { (V.numbering versioning.now).range_of target.now.dep.now.value ≡ Some target.now.range.now }
+    requires versions { All (IsNamed (V.numbering versioning.now)) (map seen found.items) }
+    ensures { IfOk result (AreToChosen (V.numbering versioning.now) (O.options rules.now) moment (aim_of target.now) (map seen found.entry.items)) }
+{
+    versioning.keeps_laws();
+    let ranked = ranked(alloc, versioning, target, found)?;
+    to_each(alloc, versioning, rules, moment, target, ranked.as_slice())
+}
+
+// The version that the candidates are above.
+fn start_of<V: Versioning>(
+    alloc: Global,
+    versioning: &V,
+    options: &DepOptions,
+    value: &str,
+    range: &V::Range,
+    current: V::Version,
+) -> Result<V::Version, AllocError>
+    ensures { IfOk result (λ v. v ≡ start_of (V.numbering versioning.now) options.now value.now range.now current) }
+{
+    if matches!(options.strategy, Strategy::Bump) && !versioning.exact(range) {
+        match versioning.bump_start(alloc, value)? {
+            Some(start) => Ok(start),
+            None => Ok(current),
+        }
+    } else {
+        Ok(current)
+    }
+}
+
+// The pin of a value to the current version.
+fn pin<V: Versioning, O: Rules>(
+    alloc: Global,
+    versioning: &V,
+    rules: &O,
+    dep: &Dep,
+    options: &DepOptions,
+    range: &V::Range,
+    current: &Text,
+    version: &V::Version,
+) -> Result<List<Update>, AllocError>
+    requires value { (V.numbering versioning.now).range_of dep.now.value ≡ Some range.now }
+    requires version { (V.numbering versioning.now).version_of current.now ≡ Some version.now }
+    ensures { IfOk result (λ updates. updates ≡ pin_updates (V.numbering versioning.now) (O.options rules.now) dep.now options.now current.now) }
+{
+    let mut updates = List::empty(alloc);
+    let text = versioning.rewritten(
+        alloc,
+        options.strategy,
+        dep.value.as_str(),
+        range,
+        current.as_str(),
+        version,
+    )?;
+    let Some(text) = text else {
+        return Ok(updates);
+    };
+    let at_update = rules.at_update(alloc, dep, UpdateKind::Pin, text.as_str())?;
+    let choice = Choice {
+        new_version: current.share(alloc)?,
+        new_value: text,
+        kind: UpdateKind::Pin,
+        pending: false,
+        options: at_update,
+    };
+    add(alloc, dep, options, choice, &mut updates)?;
+    Ok(updates)
+}
+
+// The updates of a dependency from its current version on.
+fn updates_from<V: Versioning, O: Rules>(
+    alloc: Global,
+    versioning: &V,
+    rules: &O,
+    moment: u64,
+    dep: &Dep,
+    options: &DepOptions,
+    range: &V::Range,
+    current: &Text,
+    version: V::Version,
+    found: Vec<Live<'_, V::Version>>,
+) -> Result<List<Update>, AllocError>
+    requires value { (V.numbering versioning.now).range_of dep.now.value ≡ Some range.now }
+    requires version { (V.numbering versioning.now).version_of current.now ≡ Some version }
+    requires versions { All (IsNamed (V.numbering versioning.now)) (map seen found.items) }
+    ensures { IfOk result (AreUpdatesFrom (V.numbering versioning.now) (O.options rules.now) moment dep.now options.now (map seen found.entry.items) range.now current.now version) }
+{
+    if matches!(options.strategy, Strategy::Pin) && !versioning.exact(range) {
+        return pin(
+            alloc, versioning, rules, dep, options, range, current, &version,
+        );
+    }
+    let value = dep.value.as_str();
+    let start = start_of(alloc, versioning, options, value, range, version)?;
+    let target = Target {
+        dep,
+        options,
+        range,
+        start: &start,
+    };
+    to_chosen(alloc, versioning, rules, moment, &target, found)
+}
+
+// The updates of a dependency, by the text of its current version.
+fn updates_at<V: Versioning, O: Rules>(
+    alloc: Global,
+    versioning: &V,
+    rules: &O,
+    moment: u64,
+    dep: &Dep,
+    options: &DepOptions,
+    range: &V::Range,
+    current: &Text,
+    found: Vec<Live<'_, V::Version>>,
+) -> Result<List<Update>, AllocError>
+    requires value { (V.numbering versioning.now).range_of dep.now.value ≡ Some range.now }
+    requires versions { All (IsNamed (V.numbering versioning.now)) (map seen found.items) }
+    ensures { IfOk result (AreUpdatesAt (V.numbering versioning.now) (O.options rules.now) moment dep.now options.now (map seen found.entry.items) range.now current.now ((V.numbering versioning.now).version_of current.now)) }
+{
+    match versioning.version(alloc, current.as_str()) {
+        Ok(version) => updates_from(
+            alloc, versioning, rules, moment, dep, options, range, current, version, found,
+        ),
+        Err(VersionError::NotAVersion) => Ok(List::empty(alloc)),
+        Err(VersionError::Memory) => Err(AllocError),
+    }
+}
+
+// The current version of a value that is this range.
+fn current_in<V: Versioning>(
+    alloc: Global,
+    versioning: &V,
+    value: &str,
+    range: &V::Range,
+    found: &[Live<'_, V::Version>],
+) -> Result<Option<Text>, AllocError>
+    requires { (V.numbering versioning.now).range_of value.now ≡ Some range.now }
+    ensures { IfOk result (IsCurrentIn (V.numbering versioning.now) value.now (map seen found.now) (Some range.now)) }
+{
+    if versioning.exact(range) {
+        versioning.exact_text(alloc, value, range)
+    } else {
+        greatest_in(alloc, versioning, range, found)
+    }
+}
+
+// The current version of a value.
+fn current<V: Versioning>(
+    alloc: Global,
+    versioning: &V,
+    value: &str,
+    range: &Option<V::Range>,
+    found: &[Live<'_, V::Version>],
+) -> Result<Option<Text>, AllocError>
+    requires { range.now ≡ (V.numbering versioning.now).range_of value.now }
+    ensures { IfOk result (IsCurrent (V.numbering versioning.now) value.now (map seen found.now)) }
+{
+    match range {
+        Some(range) => current_in(alloc, versioning, value, range, found),
+        None => Ok(None),
+    }
+}
+
+// The first reason to skip a dependency, before its options are asked for.
+fn early_skip(ignored: bool, readable: bool, indexed: bool) -> Option<Skip>
+    ensures { result ≡ (if ignored then Some Skip.Ignored else (if not readable then Some Skip.Unreadable else (if not indexed then Some Skip.NoIndex else None))) }
+{
+    if ignored {
+        Some(Skip::Ignored)
+    } else if !readable {
+        Some(Skip::Unreadable)
+    } else if !indexed {
+        Some(Skip::NoIndex)
+    } else {
+        None
+    }
+}
+
+fn skipped(alloc: Global, current: Option<Text>, skip: Skip) -> Picked
+    ensures { result ≡ record { current = current; skip = Some skip; updates = [] } }
+{
+    Picked {
+        current,
+        skip: Some(skip),
+        updates: List::empty(alloc),
+    }
+}
+
+// What is picked for a dependency that has its current version and a document.
+fn picked_at<V: Versioning, O: Rules>(
+    alloc: Global,
+    versioning: &V,
+    rules: &O,
+    moment: u64,
+    dep: &Dep,
+    range: &V::Range,
+    found: Vec<Live<'_, V::Version>>,
+) -> Result<Picked, AllocError>
+    requires value { (V.numbering versioning.now).range_of dep.now.value ≡ Some range.now }
+    requires versions { All (IsNamed (V.numbering versioning.now)) (map seen found.items) }
+    ensures current { IfOk result (λ p. p.current ≡ dep.now.current) }
+    ensures skip { IfOk result (λ p. p.skip ≡ late_skip ((O.options rules.now).at_dep dep.now).enabled dep.now.current) }
+    ensures updates { IfOk result (λ p. AreUnlessSkipped (V.numbering versioning.now) (O.options rules.now) moment dep.now (map seen found.entry.items) p.skip p.updates) }
+{
+    let options = rules.at_dep(alloc, dep)?;
+    let current = share_text(alloc, &dep.current)?;
+    if !options.enabled {
+        return Ok(skipped(alloc, current, Skip::Disabled));
+    }
+    let Some(text) = &dep.current else {
+        return Ok(skipped(alloc, current, Skip::NoRelease));
+    };
+    let updates = updates_at(
+        alloc, versioning, rules, moment, dep, &options, range, text, found,
+    )?;
+    Ok(Picked {
+        current,
+        skip: None,
+        updates,
     })
 }
 
-/// Does nothing: its promise is the law that a dependency has one list of updates.
-pub fn one_list()
-    ensures { (dep : Dep) (releases : Option (List Release)) → HasOneList dep releases }
-{}
+// The releases of a document, and none without one.
+fn releases_of(releases: Option<&List<Release>>) -> &[Release]
+    ensures { result.now ≡ unwrap_or (option_copied releases.entry) [] }
+{
+    match releases {
+        Some(releases) => releases.as_slice(),
+        None => &[],
+    }
+}
+
+// The current version of a dependency, the first reason to skip it, and its updates, over one
+// versioning. Its value is read once, and the text of each release once.
+pub(crate) fn picked<V: Versioning, O: Rules>(
+    alloc: Global,
+    versioning: &V,
+    dep: &Dep,
+    releases: Option<&List<Release>>,
+    rules: &O,
+    moment: u64,
+) -> Result<Picked, AllocError>
+    ensures { IfOk result (IsPicked (V.numbering versioning.now) (O.options rules.now) moment dep.now (option_copied releases.entry)) }
+{
+    let range = range_of(alloc, versioning, dep.value.as_str())?;
+    let found = live_releases(alloc, versioning, releases_of(releases))?;
+    let current = current(
+        alloc,
+        versioning,
+        dep.value.as_str(),
+        &range,
+        found.as_slice(),
+    )?;
+    let dep = dep.with_current(alloc, current)?;
+    let early = early_skip(rules.is_ignored(&dep), range.is_some(), releases.is_some());
+    if let Some(skip) = early {
+        return Ok(skipped(alloc, share_text(alloc, &dep.current)?, skip));
+    }
+    match &range {
+        Some(range) => picked_at(alloc, versioning, rules, moment, &dep, range, found),
+        None => unreachable!(),
+    }
+}

@@ -104,16 +104,16 @@ module _ (repo : List ℕ) (files : List NamedFile) where
   folder-fine moment planned g e (large which number wrong same) = large-base planned.files which number g.base wrong
   folder-fine moment planned g e (unknown wrong same) = unknown-base planned.files g.base wrong
   folder-fine moment planned g e (of_files base b refused) =
-      gathered-fine files planned.files planned.inputs.picked g.gathered e (subst (λ (fs : List MarkedFile). IsRefusal files fs e) (base-one repo files base planned.files b g.base) refused)
+      gathered-fine files moment planned.files planned.inputs.picked g.gathered e (subst (λ (fs : List MarkedFile). IsRefusal files fs e) (base-one repo files base planned.files b g.base) refused)
 
   -- ---- one plan
 
-  pub picked-of : (base : List MarkedFile) (ps qs : List PickedFile) → IsGathered files base ps → IsGathered files base qs → ps ≡ qs
-  picked-of base ps qs a b =
-      picked-one (releases_for files) b.taken ps qs (subst (λ (ts : List TakenFile). ArePicked (releases_for files) ts ps) (taken-one base a.taken b.taken a.built.few.read b.built.few.read) a.each) b.each
+  pub picked-of : (moment : ℕ) (base : List MarkedFile) (ps qs : List PickedFile) → IsGathered files moment base ps → IsGathered files moment base qs → ps ≡ qs
+  picked-of moment base ps qs a b =
+      picked-one moment (releases_for files) b.taken ps qs (subst (λ (ts : List TakenFile). ArePicked moment (releases_for files) ts ps) (taken-one base a.taken b.taken a.built.few.read b.built.few.read) a.each) b.each
 
   gathered-one : (moment : ℕ) (p q : Planned) → IsGatheredOf repo moment files p → IsGatheredOf repo moment files q → p.inputs.picked ≡ q.inputs.picked
-  gathered-one moment p q a b = picked-of q.files p.inputs.picked q.inputs.picked (subst (λ (fs : List MarkedFile). IsGathered files fs p.inputs.picked) (base-one repo files p.files q.files a.base b.base) a.gathered) b.gathered
+  gathered-one moment p q a b = picked-of moment q.files p.inputs.picked q.inputs.picked (subst (λ (fs : List MarkedFile). IsGathered files moment fs p.inputs.picked) (base-one repo files p.files q.files a.base b.base) a.gathered) b.gathered
 
   few-many : (updates : List Update) (items : List Group) (e : RunError) → AreFewGroups updates items → ¬ (HaveManyGroups updates e)
   few-many updates items e few many =

@@ -16,7 +16,7 @@ use Rattle.rnv_pick.specs.declared.dep.Dep.{Dep}
 use Rattle.rnv_plan.specs.declared.error.RunError.{RunError}
 use Rattle.rnv_plan.specs.declared.inputs.PickedFile.{PickedFile}
 use Rattle.rnv_plan.specs.declared.taken.TakenFile.{TakenFile}
-use Rattle.rnv_plan.specs.Taken.{deps_in, is_built, is_configured}
+use Rattle.rnv_plan.specs.Taken.{deps_in, readable_in, is_built, is_configured}
 use Rattle.rnv_plan.specs.Gather.{AreFew, IsGathered, index_for, is_sound, IsSound}
 use Rattle.rnv_plan.specs.Refusal.{HaveMany, IsFirstUnbuilt, IsFirstUnsound, HasUnsound, IsIndexRefusal, IsRefusal, many_dependencies, configured, unbuilt, refused_document}
 use Rattle.rnv_plan.proofs.TakenFiles.{taken-one}
@@ -42,13 +42,13 @@ few-many base ts few many =
 few-one : (base : List MarkedFile) (ts us : List TakenFile) → AreFew base ts → AreFew base us → ts ≡ us
 few-one base ts us a b = taken-one base ts us a.read b.read
 
-pub gathered-fine : (files : List NamedFile) (base : List MarkedFile) (picked : List PickedFile) → IsGathered files base picked → (e : RunError) → ¬ (IsRefusal files base e)
-gathered-fine files base picked g e (many_dependencies many same) = few-many base g.taken g.built.few many
-gathered-fine files base picked g e (configured ts few is_so same) = true-false (is_configured base) is_so g.built.plain
-gathered-fine files base picked g e (unbuilt ts few not_so path first same) =
+pub gathered-fine : (files : List NamedFile) (moment : ℕ) (base : List MarkedFile) (picked : List PickedFile) → IsGathered files moment base picked → (e : RunError) → ¬ (IsRefusal files base e)
+gathered-fine files moment base picked g e (many_dependencies many same) = few-many base g.taken g.built.few many
+gathered-fine files moment base picked g e (configured ts few is_so same) = true-false (is_configured base) is_so g.built.plain
+gathered-fine files moment base picked g e (unbuilt ts few not_so path first same) =
     clash (λ (t : TakenFile). t.path) is_built ts path (subst (All (λ t. is_built t ≡ true)) (few-one base g.taken ts g.built.few few) g.built.built) first.among
-gathered-fine files base picked g e (refused_document ts built refused) =
-    sound-clash files (deps_in ts) refused.name (subst (λ (us : List TakenFile). All (λ d. IsSound files d.«package») (deps_in us)) (few-one base g.taken ts g.built.few built.few) g.sound) refused.first
+gathered-fine files moment base picked g e (refused_document ts built refused) =
+    sound-clash files (readable_in ts) refused.name (subst (λ (us : List TakenFile). All (λ d. IsSound files d.«package») (readable_in us)) (few-one base g.taken ts g.built.few built.few) g.sound) refused.first
 
 -- ---- the first by bytes is one
 
@@ -114,4 +114,4 @@ module _ (files : List NamedFile) (base : List MarkedFile) (e f : RunError) wher
   refusal-one (refused_document ts built refused) (unbuilt ts' few' not_so path first b) =
       absurd (clash (λ (t : TakenFile). t.path) is_built ts' path (subst (All (λ t. is_built t ≡ true)) (few-one base ts ts' built.few few') built.built) first.among)
   refusal-one (refused_document ts built refused) (refused_document ts' built' refused') =
-      unsound-one files (deps_in ts') e f (subst (λ (us : List TakenFile). HasUnsound files (deps_in us) e) (few-one base ts ts' built.few built'.few) refused) refused'
+      unsound-one files (readable_in ts') e f (subst (λ (us : List TakenFile). HasUnsound files (readable_in us) e) (few-one base ts ts' built.few built'.few) refused) refused'

@@ -8,11 +8,13 @@ use Rattle.rnv_release.specs.declared.release.Release.{Release}
 use Rattle.rnv_release.specs.Npm.{npm_path, npm_reading}
 use Rattle.rnv_release.specs.Index.{Index, absent, listed, too_long, bad, too_many, index_of}
 use Rattle.rnv_pick.specs.declared.dep.Dep.{Dep}
-use Rattle.rnv_pick.specs.Updates.{AreUpdates}
+use Rattle.rnv_pick.specs.BySource.{IsPickedFrom as IsPickedBy}
+use Rattle.rnv_pick.specs.Options.{with_current}
 use Rattle.rnv_plan.specs.declared.inputs.PickedDep.{PickedDep}
 use Rattle.rnv_plan.specs.declared.inputs.PickedFile.{PickedFile}
 use Rattle.rnv_plan.specs.declared.taken.TakenFile.{TakenFile}
-use Rattle.rnv_plan.specs.Taken.{AreDeps, AreTaken, deps_in, is_configured, is_built}
+use Rattle.rnv_plan.specs.Plain.{plain}
+use Rattle.rnv_plan.specs.Taken.{AreDeps, AreTaken, deps_in, readable_in, is_configured, is_built}
 
 -- ---- the base
 
@@ -56,42 +58,43 @@ IsSound files name = is_sound (index_for files name) ≡ true
 
 -- ---- the updates
 
--- a dependency with its updates, from the releases of its package
-pub record IsPickedDep (releases : List ℕ → Option (List Release)) (d : Dep) (p : PickedDep) : Type 0 where
+-- a dependency with what is picked for it at a moment, from the releases of its package
+pub record IsPickedDep (moment : ℕ) (releases : List ℕ → Option (List Release)) (d : Dep) (p : PickedDep) : Type 0 where
   pub dep : p.dep ≡ d
-  pub updates : AreUpdates d (releases d.«package») p.picked.updates
+  pub picked : IsPickedBy d.source plain moment d (releases d.«package») p.picked
 
 -- a file with its dependencies in turn
-pub record IsPickedFile (releases : List ℕ → Option (List Release)) (t : TakenFile) (p : PickedFile) : Type 0 where
+pub record IsPickedFile (moment : ℕ) (releases : List ℕ → Option (List Release)) (t : TakenFile) (p : PickedFile) : Type 0 where
   pub path : p.path ≡ t.path
   pub manager : p.manager ≡ t.manager
-  pub deps : AllZip (IsPickedDep releases) t.deps p.deps
+  pub deps : AllZip (IsPickedDep moment releases) t.deps p.deps
 
-abbrev pub ArePicked : (List ℕ → Option (List Release)) → List TakenFile → List PickedFile → Type 0
-ArePicked releases taken picked = AllZip (IsPickedFile releases) taken picked
+abbrev pub ArePicked : ℕ → (List ℕ → Option (List Release)) → List TakenFile → List PickedFile → Type 0
+ArePicked moment releases taken picked = AllZip (IsPickedFile moment releases) taken picked
 
--- what is gathered of a base, from the documents of a folder's files
-pub record IsGathered (files : List NamedFile) (base : List MarkedFile) (picked : List PickedFile) : Type 0 where
+-- what is gathered of a base at a moment, from the documents of a folder's files: of each package of a dependency whose
+-- value is a range
+pub record IsGathered (files : List NamedFile) (moment : ℕ) (base : List MarkedFile) (picked : List PickedFile) : Type 0 where
   pub taken : List TakenFile
   pub built : AreBuilt base taken
-  pub sound : All (λ d. IsSound files d.«package») (deps_in taken)
-  pub each : ArePicked (releases_for files) taken picked
+  pub sound : All (λ d. IsSound files d.«package») (readable_in taken)
+  pub each : ArePicked moment (releases_for files) taken picked
 
 -- the same from some releases, as a folder has it that tells nothing
-pub record IsPickedFrom (base : List MarkedFile) (picked : List PickedFile) : Type 0 where
+pub record IsPickedFrom (moment : ℕ) (base : List MarkedFile) (picked : List PickedFile) : Type 0 where
   pub taken : List TakenFile
   pub built : AreBuilt base taken
   pub releases : List ℕ → Option (List Release)
-  pub each : ArePicked releases taken picked
+  pub each : ArePicked moment releases taken picked
 
 -- a file of the base, whose finds in turn are the dependencies, and each update is of the dependency
--- with which it stands
+-- with which it stands, with its current version
 pub record IsPickedOf (base : List MarkedFile) (p : PickedFile) : Type 0 where
   pub file : MarkedFile
   pub there : Contains base file
   pub path : p.path ≡ file.path
   pub deps : AreDeps p.manager file (map (λ d. d.dep) p.deps)
-  pub own : All (λ d. All (λ u. u.dep ≡ d.dep) d.picked.updates) p.deps
+  pub own : All (λ d. All (λ u. u.dep ≡ with_current d.dep d.picked.current) d.picked.updates) p.deps
 
 -- the picked files stand by path, each once
 pub record AreFit (base : List MarkedFile) (picked : List PickedFile) : Type 0 where

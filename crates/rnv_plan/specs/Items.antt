@@ -1,5 +1,5 @@
 -- The branches of a list of updates.
-use Rattle.std.specs.Prelude.{◌≡◌, ◌==◌, ℕ, ℤ, pos, List, [], ◌≢◌, Bool, false, filter, option_map, unwrap_or}
+use Rattle.std.specs.Prelude.{◌≡◌, ◌==◌, ℕ, ℤ, pos, List, [], ◌≢◌, Bool, codes, false, filter, option_map, unwrap_or}
 use Rattle.std.specs.List.{All, Any}
 use Rattle.std.specs.List.Sorted.{IsStrictlySortedBy}
 use Rattle.std.specs.Ordering.{int_cmp, nat_cmp, on, then_cmp, flip_args, is_gt}
@@ -7,6 +7,7 @@ use Rattle.std.specs.Cmp.Lexicographic.{pointwise, slice_cmp}
 use Rattle.std.specs.declared.cmp.Ordering.{Ordering}
 use Rattle.rnv_base.specs.Kinds.{rank}
 use Rattle.rnv_base.specs.declared.kinds.UpdateKind.{UpdateKind}
+use Rattle.rnv_base.specs.declared.kinds.UpdateKind.TheVariants as kind
 use Rattle.rnv_base.specs.declared.kinds.SourceKind.{SourceKind}
 use Rattle.rnv_base.specs.declared.kinds.SourceKind.TheVariants as source
 use Rattle.rnv_npm.specs.Version.{npm_version}
@@ -22,9 +23,14 @@ major_of source.Crates text = unwrap_or (option_map (λ v. v.major) (cargo_versi
 major_of source.Npm text = unwrap_or (option_map (λ v. v.major) (npm_version text)) 0
 major_of source.Docker text = unwrap_or (option_map (λ t. t.numbers.major) (docker_tag text)) 0
 
+-- all pins have one branch; another update has that of its package and its new first number
+abbrev pub branch_for : UpdateKind → Update → List ℕ
+branch_for kind.Pin u = codes "renovate/pin-dependencies"
+branch_for _ u = branch_of u.dep.package (major_of u.dep.source u.new_version)
+
 -- the branch that an update belongs to
 abbrev pub branch_name : Update → List ℕ
-branch_name u = branch_of u.dep.package (major_of u.dep.source u.new_version)
+branch_name u = branch_for u.kind u
 
 abbrev pub is_on : List ℕ → Update → Bool
 is_on branch u = pointwise ◌==◌ (branch_name u) branch

@@ -5,6 +5,7 @@ pub mod Named
 pub mod Groups
 pub mod Managers
 pub mod Taken
+pub mod Plain
 pub mod Gather
 pub mod Refusal
 pub mod Packages

@@ -31,7 +31,7 @@ pub record IsFolderBase (repo : List ℕ) (files : List NamedFile) (base : List 
 pub record IsGatheredOf (repo : List ℕ) (moment : ℕ) (files : List NamedFile) (planned : Planned) : Type 0 where
   pub at : planned.inputs.moment ≡ moment
   pub base : IsFolderBase repo files planned.files
-  pub gathered : IsGathered files planned.files planned.inputs.picked
+  pub gathered : IsGathered files moment planned.files planned.inputs.picked
 
 -- why it is not gathered, in order: the base, and what is in it
 pub data IsFolderRefusal (repo : List ℕ) (files : List NamedFile) (error : RunError) : Type 0 where

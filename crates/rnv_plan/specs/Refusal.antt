@@ -12,7 +12,7 @@ use Rattle.rnv_pick.specs.declared.dep.Dep.{Dep}
 use Rattle.rnv_plan.specs.declared.error.RunError.{RunError}
 use Rattle.rnv_plan.specs.declared.error.RunError.TheVariants.{Memory, FolderFault, DiskFault, UnknownRepo, NotBuilt, Limit, IndexRefused}
 use Rattle.rnv_plan.specs.declared.taken.TakenFile.{TakenFile}
-use Rattle.rnv_plan.specs.Taken.{AreTaken, deps_in, is_configured, is_built}
+use Rattle.rnv_plan.specs.Taken.{AreTaken, deps_in, readable_in, is_configured, is_built}
 use Rattle.rnv_plan.specs.Gather.{AreFew, AreBuilt, index_for, is_sound, IsSound}
 
 -- a fact of the error, but for want of memory and a fault of the folder
@@ -62,4 +62,4 @@ pub data IsRefusal (files : List NamedFile) (base : List MarkedFile) (error : Ru
   many_dependencies : HaveMany base → error ≡ Limit (codes "dependencies") 20000 → IsRefusal files base error
   configured : (taken : List TakenFile) → AreFew base taken → is_configured base ≡ true → error ≡ NotBuilt (codes "renovate.json") → IsRefusal files base error
   unbuilt : (taken : List TakenFile) → AreFew base taken → is_configured base ≡ false → (path : List ℕ) → IsFirstUnbuilt taken path → error ≡ NotBuilt path → IsRefusal files base error
-  refused_document : (taken : List TakenFile) → AreBuilt base taken → HasUnsound files (deps_in taken) error → IsRefusal files base error
+  refused_document : (taken : List TakenFile) → AreBuilt base taken → HasUnsound files (readable_in taken) error → IsRefusal files base error

@@ -1,6 +1,6 @@
 -- The files of a base that a manager takes, with their dependencies.
-use Rattle.std.specs.Prelude.{◌≡◌, ◌⊎◌, ℕ, List, [], ◌==◌, map, filter, codes, Bool, ◌&&◌, true, false, Some, is_some}
-use Rattle.std.specs.List.{AllZip, flat_map, list_all, list_any}
+use Rattle.std.specs.Prelude.{◌≡◌, ◌⊎◌, ℕ, List, [], ◌==◌, map, filter, codes, Bool, true, false, None, Some, is_some}
+use Rattle.std.specs.List.{AllZip, flat_map, list_any}
 use Rattle.std.specs.Str.{IsUtf8}
 use Rattle.std.specs.Cmp.Lexicographic.{pointwise}
 use Rattle.rnv_base.specs.declared.kinds.ManagerKind.{ManagerKind}
@@ -8,7 +8,7 @@ use Rattle.rnv_base.specs.declared.kinds.ManagerKind.TheVariants.{Cargo, Npm, Do
 use Rattle.rnv_repo.specs.Files.{MarkedFile}
 use Rattle.rnv_manager.specs.Finds.{Find}
 use Rattle.rnv_manager.specs.Marks.{Mark, finds_from}
-use Rattle.rnv_npm.specs.Exact.{exact_of}
+use Rattle.rnv_pick.specs.BySource.{is_range}
 use Rattle.rnv_pick.specs.declared.dep.Dep.{Dep}
 use Rattle.rnv_plan.specs.declared.taken.TakenFile.{TakenFile}
 use Rattle.rnv_plan.specs.Managers.{manager_of, IsReadBy}
@@ -34,7 +34,7 @@ AreFinds manager bytes finds = AreFindsOf manager bytes finds ⊎ AreUnread mana
 -- ---- the files of a base
 
 abbrev pub dep_of : List ℕ → ManagerKind → Find → Dep
-dep_of path manager f = record { file = path; manager = manager; source = f.source; place = f.place; name = f.name; «package» = f.«package»; value = f.value; start = f.start }
+dep_of path manager f = record { file = path; manager = manager; source = f.source; place = f.place; name = f.name; «package» = f.«package»; value = f.value; start = f.start; current = None }
 
 -- the finds of a file in turn
 pub record AreDeps (manager : ManagerKind) (file : MarkedFile) (deps : List Dep) : Type 0 where
@@ -59,14 +59,18 @@ AreTaken base taken = AllZip IsTaken (filter is_taken base) taken
 abbrev pub deps_in : List TakenFile → List Dep
 deps_in taken = flat_map (λ t. t.deps) taken
 
+-- those whose value is a range of the versioning of its source
+abbrev pub is_readable : Dep → Bool
+is_readable d = is_range d.source d.value
+
+abbrev pub readable_in : List TakenFile → List Dep
+readable_in taken = filter is_readable (deps_in taken)
+
 -- ---- what is built
 
 -- the configuration of a repository stands at its root
 abbrev pub is_configured : List MarkedFile → Bool
 is_configured base = list_any (λ f. pointwise ◌==◌ f.path (codes "renovate.json")) base
-
-abbrev pub is_exact : Dep → Bool
-is_exact d = is_some (exact_of d.value)
 
 abbrev pub is_npm : ManagerKind → Bool
 is_npm Cargo = false
@@ -74,6 +78,6 @@ is_npm Npm = true
 is_npm Dockerfile = false
 is_npm Regex = false
 
--- npm takes the file, and each of its values is exact
+-- npm takes the file
 abbrev pub is_built : TakenFile → Bool
-is_built t = is_npm t.manager && list_all is_exact t.deps
+is_built t = is_npm t.manager

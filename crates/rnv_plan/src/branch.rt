@@ -4,7 +4,7 @@ ghost use Rattle.std.specs.Fmt.{decimal};
 ghost use Rattle.rnv_plan.specs.Branch.{skip, is_plain, plain_or_dash, is_edge, written, begins_with_dash, single_dashes, or_x, trimmed, sanitised, branch_of};
 ghost use Rattle.rnv_plan.specs.Items.{branch_name, major_of};
 
-use rnv_base::{SourceKind, Text};
+use rnv_base::{SourceKind, Text, UpdateKind};
 use rnv_npm::NpmVersioning;
 use rnv_pick::Update;
 use rnv_version::{CargoVersioning, DockerVersioning, VersionError, Versioning};
@@ -20,12 +20,22 @@ pub fn branch_name(alloc: Global, package: &str, major: u64) -> Result<Text, All
     Ok(Text::new(format!(in alloc; "renovate/{topic}-{major}.x")?))
 }
 
+// The name of the branch of an update that is no pin.
+fn package_branch(alloc: Global, update: &Update) -> Result<Text, AllocError>
+    ensures { IfOk result (λ name. name ≡ branch_of update.now.dep.«package» (major_of update.now.dep.source update.now.new_version)) }
+{
+    let major = major_of(alloc, update.dep.source, update.new_version.as_str())?;
+    branch_name(alloc, update.dep.package.as_str(), major)
+}
+
 // The name of the branch that an update belongs to.
 pub(crate) fn branch_of(alloc: Global, update: &Update) -> Result<Text, AllocError>
     ensures { IfOk result (λ name. name ≡ branch_name update.now) }
 {
-    let major = major_of(alloc, update.dep.source, update.new_version.as_str())?;
-    branch_name(alloc, update.dep.package.as_str(), major)
+    match update.kind {
+        UpdateKind::Pin => Text::copied(alloc, "renovate/pin-dependencies"),
+        UpdateKind::Patch | UpdateKind::Minor | UpdateKind::Major => package_branch(alloc, update),
+    }
 }
 
 // The first number of a version of the source, 0 for a text that is none.

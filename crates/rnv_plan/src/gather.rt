@@ -6,7 +6,7 @@ ghost use Rattle.rnv_repo.specs.WellFormed.{AreInOrder};
 ghost use Rattle.rnv_release.specs.declared.release.Release.{Release as OfRelease};
 ghost use Rattle.rnv_plan.specs.declared.error.RunError.{RunError as Error};
 ghost use Rattle.rnv_plan.specs.declared.taken.TakenFile.{TakenFile as OfTaken};
-ghost use Rattle.rnv_plan.specs.Taken.{deps_in};
+ghost use Rattle.rnv_plan.specs.Taken.{readable_in};
 ghost use Rattle.rnv_plan.specs.Gather.{releases_for, IsSound, ArePicked, AreBuilt, AreFit, IsGathered, IsPickedFrom};
 ghost use Rattle.rnv_plan.specs.Refusal.{IfTold, HasUnsound, IsRefusal};
 ghost use Rattle.rnv_plan.specs.Plan.{unchanged, IsFolderBase, IsFolderRefusal, IsGatheredOf};
@@ -22,33 +22,35 @@ use rnv_repo::{EditedFile, FileAt};
 use std::alloc::{AllocError, Global};
 use std::convert::AsSlice;
 
-// The files in turn, with the updates of their dependencies from the folder's index.
+// The files in turn, with what is picked for their dependencies at the moment from the folder's index.
 fn gather_taken<O: Folder>(
     alloc: Global,
     folder: &mut O,
     taken: List<TakenFile>,
+    moment: u64,
 ) -> Result<List<PickedFile>, RunError>
-    ensures gathered { O.tells → IfOk result (λ picked. All (λ d. IsSound (O.files folder.old) d.«package») (deps_in taken) × ArePicked (releases_for (O.files folder.old)) taken picked) }
-    ensures picked { IfOk result (λ picked. (releases : Items ℕ → Option (Items OfRelease)) × ArePicked releases taken picked) }
-    ensures refused { O.tells → IfErr result (IfTold (HasUnsound (O.files folder.old) (deps_in taken))) }
+    ensures gathered { O.tells → IfOk result (λ picked. All (λ d. IsSound (O.files folder.old) d.«package») (readable_in taken) × ArePicked moment (releases_for (O.files folder.old)) taken picked) }
+    ensures picked { IfOk result (λ picked. (releases : Items ℕ → Option (Items OfRelease)) × ArePicked moment releases taken picked) }
+    ensures refused { O.tells → IfErr result (IfTold (HasUnsound (O.files folder.old) (readable_in taken))) }
     ensures same { O.tells → (O.files folder.new ≡ O.files folder.old) }
     ensures cause { FaultsBy (O.faults folder.old) (O.faults folder.new) result RunError.FolderFault }
     ensures disk { result ≢ Err RunError.DiskFault }
     ensures unknown { result ≢ Err RunError.UnknownRepo }
 {
     let indexes = read_indexes(alloc, folder, taken.as_slice())?;
-    Ok(pick_files(alloc, taken, &indexes)?)
+    Ok(pick_files(alloc, taken, &indexes, moment)?)
 }
 
-// What is gathered of the files of a base, which stand by path.
+// What is gathered of the files of a base, which stand by path, at the moment.
 fn gather_files<O: Folder>(
     alloc: Global,
     folder: &mut O,
     files: &[FileAt],
+    moment: u64,
 ) -> Result<List<PickedFile>, RunError>
     requires { IsRisingBy (λ f. f.path) files.now }
-    ensures gathered { O.tells → IfOk result (IsGathered (O.files folder.old) files.now) }
-    ensures picked { IfOk result (IsPickedFrom files.now) }
+    ensures gathered { O.tells → IfOk result (IsGathered (O.files folder.old) moment files.now) }
+    ensures picked { IfOk result (IsPickedFrom moment files.now) }
     ensures refused { O.tells → IfErr result (IfTold (IsRefusal (O.files folder.old) files.now)) }
     ensures same { O.tells → (O.files folder.new ≡ O.files folder.old) }
     ensures cause { FaultsBy (O.faults folder.old) (O.faults folder.new) result RunError.FolderFault }
@@ -58,7 +60,7 @@ fn gather_files<O: Folder>(
     ensures unknown { result ≢ Err RunError.UnknownRepo }
 {
     match built(alloc, files) {
-        Ok(taken) => gather_taken(alloc, folder, taken),
+        Ok(taken) => gather_taken(alloc, folder, taken, moment),
         Err(error) => Err(error),
     }
 }
@@ -81,10 +83,10 @@ fn inputs(
 
 /// The inputs of a run of a repository with these files, which stand by path, for the configuration
 /// `{}`: per file that npm takes (`package.json` in any folder) its dependencies in turn, each with its
-/// updates from the folder's index of npm packages; other files are passed over. The first of these that
+/// current version, why it is skipped, and its updates from the folder's index of npm packages; other
+/// files are passed over. A document is read for the dependencies whose value is a range alone. The first of these that
 /// holds is the refusal: `Limit` of the dependencies above 20,000 together; `NotBuilt` of
-/// `renovate.json`; `NotBuilt` of the first path by its bytes that Cargo or Docker takes, or where a value
-/// is not exact; then per package by its name `FolderFault` only where the folder's count of faults
+/// `renovate.json`; `NotBuilt` of the first path by its bytes that Cargo or Docker takes; then per package by its name `FolderFault` only where the folder's count of faults
 /// rose, `Limit` of its document above 67,108,864 bytes, `IndexRefused` where this is outside its grammar,
 /// `Limit` of its releases above 50,000. `Memory` may come at any point.
 pub fn gather_base<O: Folder>(
@@ -97,9 +99,9 @@ pub fn gather_base<O: Folder>(
     requires { IsRisingBy (λ f. f.path) files.now }
     ensures repo { IfOk result (λ inputs. inputs.repo ≡ repo.now) }
     ensures moment { IfOk result (λ inputs. inputs.moment ≡ moment) }
-    ensures gathered { O.tells → IfOk result (λ inputs. IsGathered (O.files folder.old) files.now inputs.picked) }
+    ensures gathered { O.tells → IfOk result (λ inputs. IsGathered (O.files folder.old) moment files.now inputs.picked) }
     // Also where the folder tells nothing.
-    ensures picked { IfOk result (λ inputs. IsPickedFrom files.now inputs.picked) }
+    ensures picked { IfOk result (λ inputs. IsPickedFrom moment files.now inputs.picked) }
     ensures fit { IfOk result (λ inputs. AreFit files.now inputs.picked) }
     ensures refused { O.tells → IfErr result (IfTold (IsRefusal (O.files folder.old) files.now)) }
     ensures exactly { O.tells → OnOk result ((error : Error) → ¬ IsRefusal (O.files folder.old) files.now error) }
@@ -110,7 +112,7 @@ pub fn gather_base<O: Folder>(
     ensures disk { result ≢ Err RunError.DiskFault }
     ensures unknown { result ≢ Err RunError.UnknownRepo }
 {
-    let picked = gather_files(alloc, folder, files.as_slice())?;
+    let picked = gather_files(alloc, folder, files.as_slice(), moment)?;
     Ok(inputs(alloc, repo, moment, picked)?)
 }
 
@@ -165,7 +167,7 @@ pub fn gather_folder<O: Folder>(
     ensures moment { IfOk result (λ planned. planned.inputs.moment ≡ moment) }
     ensures gathered { O.tells → IfOk result (IsGatheredOf repo.now moment (O.files folder.old)) }
     // Also where the folder tells nothing.
-    ensures picked { IfOk result (λ planned. IsPickedFrom planned.files planned.inputs.picked) }
+    ensures picked { IfOk result (λ planned. IsPickedFrom moment planned.files planned.inputs.picked) }
     ensures fit { IfOk result (λ planned. AreFit planned.files planned.inputs.picked) }
     ensures order { IfOk result (λ planned. AreInOrder (λ f. f.path) planned.files) }
     ensures refused { O.tells → IfErr result (IfTold (IsFolderRefusal repo.now (O.files folder.old))) }

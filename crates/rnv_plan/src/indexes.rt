@@ -1,4 +1,4 @@
-ghost use Rattle.std.specs.Prelude.{◌≡◌, ◌≢◌, ◌++◌, ℕ, List as Items, OnOk, IfOk, IfErr};
+ghost use Rattle.std.specs.Prelude.{◌≡◌, ◌≢◌, ◌++◌, ℕ, filter, List as Items, OnOk, IfOk, IfErr};
 ghost use Rattle.std.specs.List.{All};
 ghost use Rattle.std.specs.BTreeMap.{get};
 ghost use Rattle.std.specs.BTreeSet.{keys};
@@ -6,7 +6,7 @@ ghost use Rattle.std.specs.Ordering.{nat_cmp};
 ghost use Rattle.std.specs.Cmp.Lexicographic.{slice_cmp};
 ghost use Rattle.rnv_base.specs.Causes.{FaultsBy};
 ghost use Rattle.rnv_release.specs.Npm.{npm_path};
-ghost use Rattle.rnv_plan.specs.Taken.{deps_in};
+ghost use Rattle.rnv_plan.specs.Taken.{is_readable, readable_in};
 ghost use Rattle.rnv_plan.specs.Gather.{index_for, releases_for, IsSound};
 ghost use Rattle.rnv_plan.specs.Refusal.{HasUnsound, IfTold, IsIndexRefusal};
 ghost use Rattle.rnv_plan.specs.Packages.{AreNames, HasUnsoundName};
@@ -15,25 +15,27 @@ use crate::RunError;
 use crate::error::limit;
 use crate::taken::TakenFile;
 use rnv_base::{Folder, List, Share, Text};
-use rnv_pick::Dep;
+use rnv_pick::{Dep, is_range};
 use rnv_release::{Datasource, NpmIndex, ReadIndexError, Release, read_releases};
 use std::alloc::{AllocError, Global};
 use std::collections::{BTreeMap, BTreeSet};
 use std::convert::{AsSlice, AsStr};
 
-// Adds the packages of more dependencies to those of the ones before.
+// Adds the packages of those of these dependencies whose value is a range to the ones before.
 fn add_packages(alloc: Global, names: &mut BTreeSet<Text>, deps: &[Dep]) -> Result<(), AllocError>
-    ensures { (before : Items Dep) → AreNames before names.old → OnOk result (AreNames (before ++ deps.now) names.new) }
+    ensures { (before : Items Dep) → AreNames before names.old → OnOk result (AreNames (before ++ filter is_readable deps.now) names.new) }
 {
     for dep in deps {
-        names.insert(dep.package.share(alloc)?)?;
+        if is_range(alloc, dep.source, dep.value.as_str())? {
+            names.insert(dep.package.share(alloc)?)?;
+        }
     }
     Ok(())
 }
 
-// The packages of the dependencies, each once and in the order of its bytes. Only memory can fail.
+// The packages of the dependencies whose value is a range, each once and in the order of its bytes. Only memory can fail.
 fn package_names(alloc: Global, taken: &[TakenFile]) -> Result<BTreeSet<Text>, AllocError>
-    ensures { IfOk result (AreNames (deps_in taken.now)) }
+    ensures { IfOk result (AreNames (readable_in taken.now)) }
 {
     let mut names = BTreeSet::new(alloc);
     for file in taken {
@@ -103,16 +105,16 @@ fn read_each<O: Folder>(
     Ok(indexes)
 }
 
-// The releases of each package of the dependencies that has a document, by the package's name. The
+// The releases of each package that has a document, of the dependencies whose value is a range, by the package's name. The
 // documents are read once each, in the order of the names by their bytes.
 pub(crate) fn read_indexes<O: Folder>(
     alloc: Global,
     folder: &mut O,
     taken: &[TakenFile],
 ) -> Result<BTreeMap<Text, List<Release>>, RunError>
-    ensures sound { O.tells → OnOk result (All (λ d. IsSound (O.files folder.old) d.«package») (deps_in taken.now)) }
-    ensures releases { O.tells → IfOk result (λ indexes. All (λ d. get (slice_cmp nat_cmp) indexes d.«package» ≡ releases_for (O.files folder.old) d.«package») (deps_in taken.now)) }
-    ensures refused { O.tells → IfErr result (IfTold (HasUnsound (O.files folder.old) (deps_in taken.now))) }
+    ensures sound { O.tells → OnOk result (All (λ d. IsSound (O.files folder.old) d.«package») (readable_in taken.now)) }
+    ensures releases { O.tells → IfOk result (λ indexes. All (λ d. get (slice_cmp nat_cmp) indexes d.«package» ≡ releases_for (O.files folder.old) d.«package») (readable_in taken.now)) }
+    ensures refused { O.tells → IfErr result (IfTold (HasUnsound (O.files folder.old) (readable_in taken.now))) }
     ensures same { O.tells → (O.files folder.new ≡ O.files folder.old) }
     ensures cause { FaultsBy (O.faults folder.old) (O.faults folder.new) result RunError.FolderFault }
     ensures disk { result ≢ Err RunError.DiskFault }

@@ -1,14 +1,9 @@
 use rnv_base::{List, ManagerKind, Text};
-use rnv_pick::{Dep, Update};
+use rnv_pick::{Dep, Picked};
 use rnv_repo::FileAt;
 
-/// The updates of a dependency, in rising order of version.
-#[derive(Debug, Drop)]
-pub struct Picked {
-    pub updates: List<Update>,
-}
-
-/// A dependency with what is picked for it.
+/// A dependency as its file has it, with what is picked for it: its current version, why it is skipped
+/// if it is, and its updates in rising order of version.
 #[derive(Debug, Drop)]
 pub struct PickedDep {
     pub dep: Dep,

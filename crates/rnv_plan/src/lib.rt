@@ -3,6 +3,7 @@
 #![tactic(auto)]
 
 mod branch;
+mod defaults;
 mod error;
 mod gather;
 mod group;

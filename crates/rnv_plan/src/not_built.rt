@@ -1,8 +1,7 @@
 ghost use Rattle.std.specs.Prelude.{◌≡◌, ◌≢◌, ℕ, List as Items, codes, true, false, All, IfOk, IfErr, OnOk};
-ghost use Rattle.std.specs.List.{list_all};
 ghost use Rattle.rnv_base.specs.Files.{NamedFile};
 ghost use Rattle.rnv_repo.specs.Named.{IsRisingBy};
-ghost use Rattle.rnv_plan.specs.Taken.{is_configured, is_exact, is_built};
+ghost use Rattle.rnv_plan.specs.Taken.{is_configured, is_built};
 ghost use Rattle.rnv_plan.specs.Gather.{AreBuilt};
 ghost use Rattle.rnv_plan.specs.Refusal.{IfTold, IsFirstUnbuilt, IsRefusal};
 
@@ -10,8 +9,6 @@ use crate::RunError;
 use crate::error::not_built;
 use crate::taken::{TakenFile, taken};
 use rnv_base::{List, ManagerKind};
-use rnv_npm::NpmVersioning;
-use rnv_pick::Dep;
 use rnv_repo::FileAt;
 use std::alloc::{AllocError, Global};
 use std::convert::{AsSlice, AsStr};
@@ -25,28 +22,13 @@ fn is_configured(files: &[FileAt]) -> bool
         .any(|file| file.path.as_str() == "renovate.json")
 }
 
-// Whether each value is exact. Only memory can fail.
-fn are_exact(alloc: Global, deps: &[Dep]) -> Result<bool, AllocError>
-    ensures { IfOk result (λ exact. exact ≡ list_all is_exact deps.now) }
-{
-    for dep in deps {
-        if NpmVersioning
-            .exact_value(alloc, dep.value.as_str())?
-            .is_none()
-        {
-            return Ok(false);
-        }
-    }
-    Ok(true)
-}
-
-// Whether npm takes the file and each of its values is exact. Only memory can fail.
-fn is_built(alloc: Global, file: &TakenFile) -> Result<bool, AllocError>
-    ensures { IfOk result (λ built. built ≡ is_built file.now) }
+// Whether npm takes the file.
+fn is_built(file: &TakenFile) -> bool
+    ensures { result ≡ is_built file.now }
 {
     match file.manager {
-        ManagerKind::Npm => are_exact(alloc, file.deps.as_slice()),
-        ManagerKind::Cargo | ManagerKind::Dockerfile | ManagerKind::Regex => Ok(false),
+        ManagerKind::Npm => true,
+        ManagerKind::Cargo | ManagerKind::Dockerfile | ManagerKind::Regex => false,
     }
 }
 
@@ -60,7 +42,7 @@ fn check_each(alloc: Global, taken: &[TakenFile]) -> Result<(), RunError>
     ensures unknown { result ≢ Err RunError.UnknownRepo }
 {
     for file in taken {
-        if !is_built(alloc, file)? {
+        if !is_built(file) {
             return Err(not_built(alloc, file.path.as_str()));
         }
     }

@@ -69,6 +69,7 @@ fn dep(alloc: Global, path: &str, found: &Found) -> Result<Dep, AllocError>
         package: Text::copied(alloc, found.package)?,
         value: Text::copied(alloc, found.value)?,
         start: found.start,
+        current: None,
     })
 }
 

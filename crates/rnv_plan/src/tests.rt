@@ -7,7 +7,7 @@ use crate::{
     one_refusal, plan_folder,
 };
 use rnv_base::{Bytes, List, ManagerKind, MemFile, MemFolder, SourceKind, Text, UpdateKind};
-use rnv_pick::{Dep, Update};
+use rnv_pick::{Dep, Update, UpdateOptions};
 use std::alloc::{AllocError, Global};
 use std::cmp::Ordering;
 use std::convert::{AsSlice, AsStr};
@@ -47,7 +47,7 @@ const UPDATES: [(&str, &str, &str, UpdateKind); 7] = [
 
 // Their items: the branch, the kind, and how many updates there are.
 const ITEMS: [(&str, UpdateKind, usize); 6] = [
-    ("renovate/d-1.x", UpdateKind::Pin, 1),
+    ("renovate/pin-dependencies", UpdateKind::Pin, 1),
     ("renovate/c-1.x", UpdateKind::Patch, 1),
     ("renovate/b-1.x", UpdateKind::Minor, 2),
     ("renovate/z-0.x", UpdateKind::Minor, 1),
@@ -173,10 +173,18 @@ fn update(
             package: Text::copied(alloc, package)?,
             value: Text::copied(alloc, "1.0.0")?,
             start: 0,
+            current: None,
         },
         new_version: Text::copied(alloc, version)?,
         new_value: Text::copied(alloc, value)?,
         kind,
+        pending: false,
+        split_major: true,
+        split_patch: false,
+        options: UpdateOptions {
+            enabled: true,
+            age: None,
+        },
     })
 }
 
@@ -221,10 +229,19 @@ const A_AND_B: &str = "{\"dependencies\":{\"b\":\"1.0.0\",\"a\":\"1.0.0\"}}";
 
 const A_TWICE: &str = "{\"dependencies\":{\"a\":\"1.0.1\"},\"devDependencies\":{\"a\":\"1.1.0\"}}";
 
+const LODASH: File = (
+    "index/npm/lodash.json",
+    "{\"versions\":{\"4.17.0\":{},\"4.17.21\":{},\"5.0.0\":{}}}",
+);
+
+const CARET: &str = "{\"dependencies\":{\"lodash\":\"^4.17.0\"}}";
+
+const NO_RANGE: &str = "{\"dependencies\":{\"b\":\"file:../b\"}}";
+
 const RANGE: &str = "{\"dependencies\":{\"b\":\"^1.0.0\"}}";
 
 // The files of a folder, and what is said of the plan of `acme/web`.
-const PLANS: [(&[File], &str); 12] = [
+const PLANS: [(&[File], &str); 15] = [
     (
         &[
             A,
@@ -262,7 +279,7 @@ const PLANS: [(&[File], &str); 12] = [
             ("repos/acme/web/a/package.json", RANGE),
             ("repos/acme/web/z/Dockerfile.dev", ""),
         ],
-        "not built a/package.json",
+        "not built z/Dockerfile.dev",
     ),
     (
         &[("repos/acme/web/Containerfile", "")],
@@ -276,8 +293,12 @@ const PLANS: [(&[File], &str); 12] = [
         &[A, BAD_B, ("repos/acme/web/package.json", A_AND_B)],
         "refused index/npm/b.json 1",
     ),
-    // The document of a package that no file names is not read.
+    // The document of a package that no file names is not read, nor one for a value that is no range.
     (&[BAD_A, BAD_B, ("repos/acme/web/package.json", "{}")], ""),
+    (&[BAD_B, ("repos/acme/web/package.json", NO_RANGE)], ""),
+    // A range stays where the newest release is in it, and goes to the next first number.
+    (&[LODASH, ("repos/acme/web/package.json", CARET)], "renovate/lodash-5.x package.json ^4.17.0 ^5.0.0 "),
+    (&[("repos/acme/web/package.json", CARET)], ""),
     (&[], "unknown"),
 ];
 

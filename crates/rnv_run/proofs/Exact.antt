@@ -54,17 +54,17 @@ stored_whole limit image old offset stored (inr at) =
 
 -- ---- a base is given something, or refused by one cause
 
-base_fine : (files : List NamedFile) (base : List MarkedFile) (moment : ℕ) (g : Given) (e : RunError) → IsGiven (Unit {0}) files base moment g → ¬ (IsBaseRefusal files base e)
-base_fine files base moment g e is (not_gathered r) = gathered-fine files base is.picked (is.gathered tt) e r
+base_fine : (files : List NamedFile) (base : List MarkedFile) (moment : ℕ) (g : Given) (e : RunError) → IsGiven (Unit {0}) files base moment g → ¬ (IsBaseRefusal files moment base e)
+base_fine files base moment g e is (not_gathered r) = gathered-fine files moment base is.picked (is.gathered tt) e r
 base_fine files base moment g e is (many_items picked gathered many) =
     not_many (kept_updates is.picked) is.desired.groups is.desired.few e
-    (subst (λ (ps : List PickedFile). HaveManyGroups (kept_updates ps) e) (picked-of [] files base picked is.picked gathered (is.gathered tt)) many)
+    (subst (λ (ps : List PickedFile). HaveManyGroups (kept_updates ps) e) (picked-of [] files moment base picked is.picked gathered (is.gathered tt)) many)
 
-base_one : (files : List NamedFile) (base : List MarkedFile) (e f : RunError) → IsBaseRefusal files base e → IsBaseRefusal files base f → e ≡ f
-base_one files base e f (not_gathered a) (not_gathered b) = refusal-one files base e f a b
-base_one files base e f (not_gathered a) (many_items picked gathered many) = absurd (gathered-fine files base picked gathered e a)
-base_one files base e f (many_items picked gathered many) (not_gathered b) = absurd (gathered-fine files base picked gathered f b)
-base_one files base e f (many_items picked gathered many) (many_items picked' gathered' many') = many.same ∙ sym many'.same
+base_one : (files : List NamedFile) (moment : ℕ) (base : List MarkedFile) (e f : RunError) → IsBaseRefusal files moment base e → IsBaseRefusal files moment base f → e ≡ f
+base_one files moment base e f (not_gathered a) (not_gathered b) = refusal-one files base e f a b
+base_one files moment base e f (not_gathered a) (many_items picked gathered many) = absurd (gathered-fine files moment base picked gathered e a)
+base_one files moment base e f (many_items picked gathered many) (not_gathered b) = absurd (gathered-fine files moment base picked gathered f b)
+base_one files moment base e f (many_items picked gathered many) (many_items picked' gathered' many') = many.same ∙ sym many'.same
 
 -- ---- a repository
 
@@ -84,14 +84,14 @@ module _ (files : List NamedFile) (name : List ℕ) (moment limit : ℕ) (old : 
   pub run_fine : (ws : List Write) (e : RunError) → IsRun (Unit {0}) files name moment old ws → length_of (old ++ ws) ≤ limit → ¬ (IsRepoRefusal files name moment limit old e)
   run_fine ws e run room (unknown none is) = never run.repo run.there none
   run_fine ws e run room (of_base repo there cause) =
-      base_fine files run.repo.files moment run.given e run.is_given (subst (λ (r : Repo). IsBaseRefusal files r.files e) (one_repo repo run.repo there run.there) cause)
+      base_fine files run.repo.files moment run.given e run.is_given (subst (λ (r : Repo). IsBaseRefusal files moment r.files e) (one_repo repo run.repo there run.there) cause)
   run_fine ws e run room (no_room vs run' above is) =
       let most : length_of (old ++ vs) ≤ limit = subst (λ (l : List Write). length_of (old ++ l) ≤ limit) (one_run ws vs run run') room in
       absurd (omega (arith, most, above))
 
-  based : (repo : Repo) (e : RunError) (ws : List Write) → known name (after old []) ≡ Some repo → IsBaseRefusal files repo.files e → IsRun (Unit {0}) files name moment old ws → ⊥
+  based : (repo : Repo) (e : RunError) (ws : List Write) → known name (after old []) ≡ Some repo → IsBaseRefusal files moment repo.files e → IsRun (Unit {0}) files name moment old ws → ⊥
   based repo e ws there cause run =
-      base_fine files run.repo.files moment run.given e run.is_given (subst (λ (r : Repo). IsBaseRefusal files r.files e) (one_repo repo run.repo there run.there) cause)
+      base_fine files run.repo.files moment run.given e run.is_given (subst (λ (r : Repo). IsBaseRefusal files moment r.files e) (one_repo repo run.repo there run.there) cause)
 
   pub repo_one : (e f : RunError) → IsRepoRefusal files name moment limit old e → IsRepoRefusal files name moment limit old f → e ≡ f
   repo_one e f (unknown none a) (unknown none' b) = a ∙ sym b
@@ -99,7 +99,7 @@ module _ (files : List NamedFile) (name : List ℕ) (moment limit : ℕ) (old : 
   repo_one e f (unknown none a) (no_room ws run above b) = absurd (never run.repo run.there none)
   repo_one e f (of_base repo there cause) (unknown none b) = absurd (never repo there none)
   repo_one e f (of_base repo there cause) (of_base repo' there' cause') =
-      base_one files repo'.files e f (subst (λ (r : Repo). IsBaseRefusal files r.files e) (one_repo repo repo' there there') cause) cause'
+      base_one files moment repo'.files e f (subst (λ (r : Repo). IsBaseRefusal files moment r.files e) (one_repo repo repo' there there') cause) cause'
   repo_one e f (of_base repo there cause) (no_room ws run above b) = absurd (based repo e ws there cause run)
   repo_one e f (no_room ws run above a) (unknown none b) = absurd (never run.repo run.there none)
   repo_one e f (no_room ws run above a) (of_base repo there cause) = absurd (based repo f ws there cause run)

@@ -44,14 +44,14 @@ found_order repo old sound there = (all_at (λ (r : Repo). r.name) IsSound repo.
 -- ---- no repository
 
 module _ (name : List ℕ) (ws : List Write) where
-  pub unknown_told : (files : List NamedFile) (error : RunError) → IsUnknown name ws error → IfTold (IsUnwanted files name ws) error
-  unknown_told files Memory u = tt
-  unknown_told files FolderFault u = tt
-  unknown_told files DiskFault u = absurd u
-  unknown_told files UnknownRepo u = no_repo u refl
-  unknown_told files (NotBuilt path) u = absurd u
-  unknown_told files (Limit which number) u = absurd u
-  unknown_told files (IndexRefused file line) u = absurd u
+  pub unknown_told : (files : List NamedFile) (moment : ℕ) (error : RunError) → IsUnknown name ws error → IfTold (IsUnwanted files name moment ws) error
+  unknown_told files moment Memory u = tt
+  unknown_told files moment FolderFault u = tt
+  unknown_told files moment DiskFault u = absurd u
+  unknown_told files moment UnknownRepo u = no_repo u refl
+  unknown_told files moment (NotBuilt path) u = absurd u
+  unknown_told files moment (Limit which number) u = absurd u
+  unknown_told files moment (IndexRefused file line) u = absurd u
 
   pub unknown_disk : (error : RunError) → IsUnknown name ws error → error ≢ DiskFault
   unknown_disk Memory u e = absurd (cc e)
@@ -116,11 +116,11 @@ module _ (name : List ℕ) (ws : List Write) where
 
 -- ---- refusals of a run
 
-unwanted_cause : (files : List NamedFile) (name : List ℕ) (moment limit : ℕ) (old : List Write) (error : RunError) → IsUnwanted files name old error → IsRepoRefusal files name moment limit old error
+unwanted_cause : (files : List NamedFile) (name : List ℕ) (moment limit : ℕ) (old : List Write) (error : RunError) → IsUnwanted files name moment old error → IsRepoRefusal files name moment limit old error
 unwanted_cause files name moment limit old error (no_repo none is) = unknown none is
 unwanted_cause files name moment limit old error (no_items repo there cause) = of_base repo there cause
 
-pub told_caused : (files : List NamedFile) (name : List ℕ) (moment limit : ℕ) (old : List Write) (error : RunError) → IfTold (IsUnwanted files name old) error → IfCaused (IsRepoRefusal files name moment limit old) error
+pub told_caused : (files : List NamedFile) (name : List ℕ) (moment limit : ℕ) (old : List Write) (error : RunError) → IfTold (IsUnwanted files name moment old) error → IfCaused (IsRepoRefusal files name moment limit old) error
 told_caused files name moment limit old Memory u = tt
 told_caused files name moment limit old FolderFault u = tt
 told_caused files name moment limit old DiskFault u = tt
@@ -178,7 +178,7 @@ plain_fit moment items range apart ordered = record { moment = range; distinct =
 pub plain_given : (moment : ℕ) (items : List Item) → IsPlain (given_by moment items)
 plain_given moment items = record { files = λ i. refl; problem = λ i. refl; page = λ all. refl }
 
-pub given_here : (tells : Type 0) (files : List NamedFile) (base : List MarkedFile) (moment at : ℕ) (picked : List PickedFile) (items : List Item) → AreFit base picked → (tells → IsGathered files base picked) → AreDesired base picked items → at ≡ moment → IsMoment moment
+pub given_here : (tells : Type 0) (files : List NamedFile) (base : List MarkedFile) (moment at : ℕ) (picked : List PickedFile) (items : List Item) → AreFit base picked → (tells → IsGathered files moment base picked) → AreDesired base picked items → at ≡ moment → IsMoment moment
     → IsGiven tells files base moment (given_by at items)
 given_here tells files base moment at picked items fit gathered desired same range = record {
   picked = picked;

@@ -53,20 +53,20 @@ IfCaused P (Limit which number) = P (Limit which number)
 IfCaused P (IndexRefused file line) = P (IndexRefused file line)
 
 -- why a base wants no items: what is gathered of it is refused, or the items are more than 5,000
-pub data IsBaseRefusal (files : List NamedFile) (base : List MarkedFile) (error : RunError) : Type 0 where
-  not_gathered : IsRefusal files base error → IsBaseRefusal files base error
-  many_items : (picked : List PickedFile) → IsGathered files base picked → HaveManyGroups (kept_updates picked) error → IsBaseRefusal files base error
+pub data IsBaseRefusal (files : List NamedFile) (moment : ℕ) (base : List MarkedFile) (error : RunError) : Type 0 where
+  not_gathered : IsRefusal files base error → IsBaseRefusal files moment base error
+  many_items : (picked : List PickedFile) → IsGathered files moment base picked → HaveManyGroups (kept_updates picked) error → IsBaseRefusal files moment base error
 
 -- why nothing is written for the repository of a name, in order: there is none, its base wants no items, the journal has no room
 pub data IsRepoRefusal (files : List NamedFile) (name : List ℕ) (moment limit : ℕ) (old : List Write) (error : RunError) : Type 0 where
   unknown : known name (after old []) ≡ None → error ≡ UnknownRepo → IsRepoRefusal files name moment limit old error
-  of_base : (repo : Repo) → known name (after old []) ≡ Some repo → IsBaseRefusal files repo.files error → IsRepoRefusal files name moment limit old error
+  of_base : (repo : Repo) → known name (after old []) ≡ Some repo → IsBaseRefusal files moment repo.files error → IsRepoRefusal files name moment limit old error
   no_room : (ws : List Write) → IsRun (Unit {0}) files name moment old ws → limit < length_of (old ++ ws) → error ≡ Limit (codes "journal") limit → IsRepoRefusal files name moment limit old error
 
 -- why there are no items: there is no such repository, or its base wants none
-pub data IsUnwanted (files : List NamedFile) (name : List ℕ) (old : List Write) (error : RunError) : Type 0 where
-  no_repo : known name (after old []) ≡ None → error ≡ UnknownRepo → IsUnwanted files name old error
-  no_items : (repo : Repo) → known name (after old []) ≡ Some repo → IsBaseRefusal files repo.files error → IsUnwanted files name old error
+pub data IsUnwanted (files : List NamedFile) (name : List ℕ) (moment : ℕ) (old : List Write) (error : RunError) : Type 0 where
+  no_repo : known name (after old []) ≡ None → error ≡ UnknownRepo → IsUnwanted files name moment old error
+  no_items : (repo : Repo) → known name (after old []) ≡ Some repo → IsBaseRefusal files moment repo.files error → IsUnwanted files name moment old error
 
 -- What a refusal tells of the repository of a name behind the writes that stand: there is none, or it is there, as behind every cause but
 -- want of memory and a fault of the disk.

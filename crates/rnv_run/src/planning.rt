@@ -77,7 +77,7 @@ fn given_of<O: Folder>(
     ensures told { IfOk result (λ wanted. IsTold (given_by wanted.terms.moment wanted.items) wanted.repo wanted.terms wanted.items) }
     ensures fit { IfOk result (λ wanted. IsFit (given_by wanted.terms.moment wanted.items)) }
     ensures few { IfOk result (λ wanted. length wanted.items ≤ 5000) }
-    ensures refused { O.tells → IfErr result (IfTold (IsBaseRefusal (O.files folder.old) repo.files)) }
+    ensures refused { O.tells → IfErr result (IfTold (IsBaseRefusal (O.files folder.old) moment repo.files)) }
     ensures disk { result ≢ Err RunError.DiskFault }
     ensures unknown { result ≢ Err RunError.UnknownRepo }
     ensures same { O.tells → (O.files folder.new ≡ O.files folder.old) }
@@ -115,7 +115,7 @@ fn find_wanted<F: Forge, O: Folder>(
     ensures fit { IfOk result (λ wanted. IsFit (given_by wanted.terms.moment wanted.items)) }
     ensures few { IfOk result (λ wanted. length wanted.items ≤ 5000) }
     ensures known { IfErr result (IsOfRepo name.now (F.writes forge.now)) }
-    ensures refused { O.tells → IfErr result (IfTold (IsUnwanted (O.files folder.old) name.now (F.writes forge.now))) }
+    ensures refused { O.tells → IfErr result (IfTold (IsUnwanted (O.files folder.old) name.now moment (F.writes forge.now))) }
     ensures disk { result ≢ Err RunError.DiskFault }
     ensures same { O.tells → (O.files folder.new ≡ O.files folder.old) }
     ensures cause { FaultsBy (O.faults folder.old) (O.faults folder.new) result RunError.FolderFault }
@@ -190,7 +190,7 @@ pub fn plan_run<F: Forge, O: Folder>(
     requires moment { IsMoment moment }
     ensures planned { IfOk result (IsPlanned O.tells (O.files folder.old) name.now moment (F.writes forge.now)) }
     ensures known { IfErr result (IsOfRepo name.now (F.writes forge.now)) }
-    ensures refused { O.tells → IfErr result (IfTold (IsUnwanted (O.files folder.old) name.now (F.writes forge.now))) }
+    ensures refused { O.tells → IfErr result (IfTold (IsUnwanted (O.files folder.old) name.now moment (F.writes forge.now))) }
     ensures disk { result ≢ Err RunError.DiskFault }
     ensures same { O.tells → (O.files folder.new ≡ O.files folder.old) }
     ensures cause { FaultsBy (O.faults folder.old) (O.faults folder.new) result RunError.FolderFault }

@@ -23,5 +23,5 @@ returns-clause-exactly g c = λ t.
     folder-fine c.args.repo.now (g.O.Folder.files c.args.folder.now) c.args.moment (record { inputs = c.in_ok-inputs.inputs; files = c.in_ok-files.files }) (record {
       at = c.in_ok-inputs.ensures.moment;
       base = c.in_ok-files.ensures.base t;
-      gathered = subst (λ (fs : List NamedFile). IsGathered fs c.in_ok-files.files c.in_ok-inputs.inputs.picked) (c.in_ok-files.ensures.same t) (c.in_ok-inputs.ensures.gathered t);
+      gathered = subst (λ (fs : List NamedFile). IsGathered fs c.args.moment c.in_ok-files.files c.in_ok-inputs.inputs.picked) (c.in_ok-files.ensures.same t) (c.in_ok-inputs.ensures.gathered t);
     })

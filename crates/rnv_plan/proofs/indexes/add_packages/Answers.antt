@@ -1,25 +1,25 @@
-use Rattle.std.proofs.Common.{◌≡◌, ◌+◌, ◌∷◌, ◌++◌, [], take, List, ◌∙◌, ap, sym, subst, rules, arith, append_assoc, append-nil}
-use Rattle.std.proofs.lemmas.List.{take_more, take_all}
+use Rattle.std.proofs.Common.{◌≡◌, ◌+◌, ◌<◌, ℕ, ◌∷◌, ◌++◌, [], Bool, true, false, cond, length, get_or, take, List, ◌∙◌, ap, sym, subst, rules, arith, append_assoc, append-nil}
+use Rattle.std.specs.Prelude.{filter}
+use Rattle.std.proofs.lemmas.List.{take_all}
+use Rattle.std.proofs.lemmas.List.Elements.{filter_more}
 use Rattle.rnv_pick.specs.declared.dep.Dep.{Dep}
 use Rattle.rnv_plan.specs.Packages.{AreNames}
+use Rattle.rnv_plan.specs.Taken.{is_readable}
 use Rattle.rnv_plan.proofs.Documents.{names_more}
+use Rattle.rnv_plan.proofs.indexes.add_packages.Goals.{in-then, in-else}
 use Rattle.rnv_plan.proofs.indexes.add_packages.Goals as goal
+
+-- the readable ones of one dependency more
+longer : (before deps : List Dep) (i : ℕ) (d : Dep) (b : Bool) → i < length deps → d ≡ get_or deps i d → is_readable d ≡ b → before ++ filter is_readable (take (i + 1) deps) ≡ (before ++ filter is_readable (take i deps)) ++ cond b (d ∷ []) []
+longer before deps i d b within at is =
+    ap (λ (es : List Dep). before ++ es) (filter_more is_readable deps i d within ∙ ap (λ (e : Dep). filter is_readable (take i deps) ++ cond (is_readable e) (e ∷ []) []) (sym at) ∙ ap (λ (c : Bool). filter is_readable (take i deps) ++ cond c (d ∷ []) []) is)
+    ∙ sym (append_assoc before (filter is_readable (take i deps)) (cond b (d ∷ []) []))
 
 pub loop-dep-init : goal.loop-dep-init
 loop-dep-init c = λ before names. rw append-nil names
-
-pub loop-dep-preserved : goal.loop-dep-preserved
-loop-dep-preserved c = λ before names.
-    let deps = c.args.deps.now in
-    let i = c.loop-dep.dep-index in
-    let d = c.dep-item.result in
-    let more = names_more (before ++ take i deps) c.loop-dep.names c.insert.new.self d c.in_ok-share.field-0 c.in_ok-share.ensures c.in_ok-insert.ensures.updates c.in_ok-insert.ensures.keys (search rules) (c.loop-dep.invariant before names) in
-    let longer : (before ++ take i deps) ++ d ∷ [] ≡ before ++ take (i + 1) deps =
-    append_assoc before (take i deps) (d ∷ []) ∙ (ap (λ (e : Dep). before ++ (take i deps ++ e ∷ [])) c.dep-item.is ∙ ap (λ (es : List Dep). before ++ es) (sym (take_more deps i d c.loop-dep-test.true))) in
-    subst (λ (es : List Dep). AreNames es c.insert.new.self) longer more
 
 pub returns : goal.returns
 returns c = λ before names.
     let deps = c.args.deps.now in
     let whole : take c.loop-dep.dep-index deps ≡ deps = take_all c.loop-dep.dep-index deps (omega arith) in
-    subst (λ (es : List Dep). AreNames (before ++ es) c.loop-dep.names) whole (c.loop-dep.invariant before names)
+    subst (λ (es : List Dep). AreNames (before ++ filter is_readable es) c.loop-dep.names) whole (c.loop-dep.invariant before names)

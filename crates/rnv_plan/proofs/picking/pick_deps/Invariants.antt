@@ -6,4 +6,4 @@ use Rattle.rnv_plan.specs.Gather.{IsPickedDep}
 use Rattle.rnv_plan.proofs.picking.pick_deps.Given as goal
 
 abbrev pub invariant-loop-dep : goal.invariant-loop-dep
-invariant-loop-dep l = AllZip (IsPickedDep (λ name. get (slice_cmp nat_cmp) l.indexes name)) l.yielded l.picked
+invariant-loop-dep l = AllZip (IsPickedDep l.moment (λ name. get (slice_cmp nat_cmp) l.indexes name)) l.yielded l.picked

@@ -5,4 +5,4 @@ use Rattle.rnv_plan.specs.Gather.{ArePicked}
 use Rattle.rnv_plan.proofs.picking.pick_files.Given as goal
 
 abbrev pub invariant-loop-file : goal.invariant-loop-file
-invariant-loop-file l = ArePicked (λ name. get (slice_cmp nat_cmp) l.indexes name) l.yielded l.picked
+invariant-loop-file l = ArePicked l.moment (λ name. get (slice_cmp nat_cmp) l.indexes name) l.yielded l.picked

@@ -19,7 +19,7 @@ returns-in-Ok-desired-clause-fit g c =
     plain_fit c.plain_terms.result.moment c.in-Ok-desired.items (subst IsMoment (sym (ap (λ (t : Terms). t.moment) c.plain_terms.ensures ∙ c.in-Ok.ensures.moment)) c.requires.moment) c.in-Ok-desired.ensures.distinct c.in-Ok-desired.ensures.ordered
 
 pub returns-in-Err-desired-clause-refused : goal.returns-in-Err-desired-clause-refused
-returns-in-Err-desired-clause-refused g c = λ t. IfTold-weaker _ (IsBaseRefusal (g.O.Folder.files c.args.folder.now) c.args.repo.files) c.in-Err-desired.error (λ f h. many_items _ (c.in-Ok.ensures.gathered t) h) c.in-Err-desired.ensures.many
+returns-in-Err-desired-clause-refused g c = λ t. IfTold-weaker _ (IsBaseRefusal (g.O.Folder.files c.args.folder.now) c.args.moment c.args.repo.files) c.in-Err-desired.error (λ f h. many_items _ (c.in-Ok.ensures.gathered t) h) c.in-Err-desired.ensures.many
 
 pub returns-in-Err-clause-refused : goal.returns-in-Err-clause-refused
-returns-in-Err-clause-refused g c = λ t. IfTold-weaker _ (IsBaseRefusal (g.O.Folder.files c.args.folder.now) c.args.repo.files) c.in-Err.error (λ f h. not_gathered h) (c.in-Err.ensures.refused t)
+returns-in-Err-clause-refused g c = λ t. IfTold-weaker _ (IsBaseRefusal (g.O.Folder.files c.args.folder.now) c.args.moment c.args.repo.files) c.in-Err.error (λ f h. not_gathered h) (c.in-Err.ensures.refused t)

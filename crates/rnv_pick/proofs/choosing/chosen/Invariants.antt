@@ -1,0 +1,10 @@
+use Rattle.std.proofs.Common.{◌≡◌, None, drop, map}
+use Rattle.rnv_pick.specs.Choices.{chosen_from}
+use Rattle.rnv_pick.specs.Seen.{aim_of, seen}
+use Rattle.rnv_pick.proofs.choosing.chosen.Given as goal
+
+abbrev pub invariant-loop-live : goal.invariant-loop-live
+invariant-loop-live g l =
+    let n = g.V.Versioning.numbering l.versioning in
+    let o = g.O.Rules.options l.rules in
+    chosen_from n o l.moment (aim_of l.target) l.bucket l.top (drop l.live-index (map seen l.ranked)) ≡ chosen_from n o l.moment (aim_of l.target) l.bucket None (map seen l.ranked)
