@@ -4,7 +4,7 @@ ghost use Rattle.renovate.specs.Walk.{AreBelow};
 ghost use Rattle.rnv_base.specs.Names.{IsSegment, segments};
 
 use crate::notes::{is_absence, named};
-use rnv_base::Text;
+use rnv_base::{DOCUMENT_BYTES, Text};
 use std::alloc::{AllocError, Global};
 use std::convert::AsStr;
 use std::fs::ReadDir;
@@ -13,7 +13,7 @@ use std::rt::Files;
 use std::{fs, io};
 
 // One byte more than a file may have.
-const MOST: u64 = 67_108_865;
+const MOST: u64 = DOCUMENT_BYTES + 1;
 
 /// The file's first 67,108,865 bytes. None where the path leads to no file of the folder: a folder is
 /// no file, nor is a pipe, a socket or a device, nor what would lie below a file. An error of the system

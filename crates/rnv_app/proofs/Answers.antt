@@ -3,6 +3,7 @@ use Rattle.std.specs.Result.{IfErr, IfOk}
 use Rattle.std.proofs.Common.{◌≡◌, ◌≢◌, ◌⊎◌, inl, inr, ℕ, List, [], ◌∷◌, length, get_or, Result, Ok, Err, IsErrOf, ◌↔◌, sym, subst, ◌∙◌, ap, refl, arith, codes}
 use Rattle.rnv_base.specs.Causes.{Rose, FaultsBy}
 use Rattle.rnv_base.specs.Files.{NamedFile}
+use Rattle.rnv_base.specs.Limits.{store_bytes}
 use Rattle.rnv_base.specs.Moment.{IsMomentText}
 use Rattle.rnv_disk.specs.Images.{Image}
 use Rattle.rnv_disk.specs.Stops.{Past}
@@ -341,15 +342,15 @@ module _ (s : Sight) (words : List (List ℕ)) (text : Answer) (answered : IsAns
     told_as a e = subst (λ (b : Answer). IsTold tells before after faults now b code) e told
 
     -- nothing was done
-    imports_none : (repo : List ℕ) → KeepsReadings 268435456 s.entry s.exit → Imports s repo (Err command.Memory)
+    imports_none : (repo : List ℕ) → KeepsReadings store_bytes s.entry s.exit → Imports s repo (Err command.Memory)
     imports_none repo keeps = record {
-      stops = or_import 268435456 s.entry s.exit s.folder_tells s.files repo keeps;
+      stops = or_import store_bytes s.entry s.exit s.folder_tells s.files repo keeps;
       unwritten = λ ne. keeps;
       imported = λ t. tt;
       refused = λ t. tt;
     }
 
-    shows_none : (repo : List ℕ) → KeepsReadings 268435456 s.entry s.exit → IsShowing s repo (Err command.Memory)
+    shows_none : (repo : List ℕ) → KeepsReadings store_bytes s.entry s.exit → IsShowing s repo (Err command.Memory)
     shows_none repo keeps = record { stops = keeps; shown = λ t. tt; refused = λ t. tt }
 
     pub import_is : (repo : List ℕ) → IsImport words repo → IsImportEnd s repo tells before after faults now code
@@ -358,7 +359,7 @@ module _ (s : Sight) (words : List (List ℕ)) (text : Answer) (answered : IsAns
         end : (answer : Result (List ℕ) CommandError) → text ≡ refusing answer → Imports s repo answer → IsImportEnd s repo tells before after faults now code
         end answer e i = record { answer = answer; told = told_as (refusing answer) e; imports = i }
 
-        none_then : KeepsReadings 268435456 s.entry s.exit → ((text ≡ Err Usage) × IsUsage words) ⊎ ((text ≡ Err Memory) × ¬ (IsUsage words)) → IsImportEnd s repo tells before after faults now code
+        none_then : KeepsReadings store_bytes s.entry s.exit → ((text ≡ Err Usage) × IsUsage words) ⊎ ((text ≡ Err Memory) × ¬ (IsUsage words)) → IsImportEnd s repo tells before after faults now code
         none_then keeps (inl u) = absurd (u.1.import repo asked)
         none_then keeps (inr m) = end (Err command.Memory) m.0 (imports_none repo keeps)
 
@@ -375,7 +376,7 @@ module _ (s : Sight) (words : List (List ℕ)) (text : Answer) (answered : IsAns
         end : (answer : Result (List ℕ) CommandError) → text ≡ refusing answer → IsShowing s repo answer → IsShowEnd s repo tells before after faults now code
         end answer e i = record { answer = answer; told = told_as (refusing answer) e; showing = i }
 
-        none_then : KeepsReadings 268435456 s.entry s.exit → ((text ≡ Err Usage) × IsUsage words) ⊎ ((text ≡ Err Memory) × ¬ (IsUsage words)) → IsShowEnd s repo tells before after faults now code
+        none_then : KeepsReadings store_bytes s.entry s.exit → ((text ≡ Err Usage) × IsUsage words) ⊎ ((text ≡ Err Memory) × ¬ (IsUsage words)) → IsShowEnd s repo tells before after faults now code
         none_then keeps (inl u) = absurd (u.1.show repo asked)
         none_then keeps (inr m) = end (Err command.Memory) m.0 (shows_none repo keeps)
 
@@ -392,7 +393,7 @@ module _ (s : Sight) (words : List (List ℕ)) (text : Answer) (answered : IsAns
         end : (answer : Result (List ℕ) RunRefusal) → text ≡ running answer → Runs s.folder_tells s.files s.disk_tells s.seen s.entry s.exit repo at answer → IsRunEnd s repo at tells before after faults now code
         end answer e r = record { answer = answer; told = told_as (running answer) e; runs = r }
 
-        none_then : KeepsReadings 268435456 s.entry s.exit → ((text ≡ Err Usage) × IsUsage words) ⊎ ((text ≡ Err Memory) × ¬ (IsUsage words)) → IsRunEnd s repo at tells before after faults now code
+        none_then : KeepsReadings store_bytes s.entry s.exit → ((text ≡ Err Usage) × IsUsage words) ⊎ ((text ≡ Err Memory) × ¬ (IsUsage words)) → IsRunEnd s repo at tells before after faults now code
         none_then keeps (inl u) = absurd (u.1.run repo at asked)
         none_then keeps (inr m) = end (Err (of_run.Ended run.Memory)) m.0 (runs_none s.folder_tells s.files s.disk_tells s.seen s.entry s.exit repo at keeps)
 
@@ -438,11 +439,11 @@ none_of words words_memory refusal usage memory exactly = inr (ap Err (memory re
 
 -- what is left of the disk, where these words or a plan are refused
 module _ (old new : Image) (before now : Past) where
-  pub none_left : (error : WordsError) (refusal : Refusal) → (error ≡ words_usage → refusal ≡ Usage) → (error ≡ words_memory → refusal ≡ Memory) → LeavesNoStore 268435456 old new before now refusal
-  none_left words_usage refusal usage memory = subst (LeavesNoStore 268435456 old new before now) (sym (usage refl)) tt
-  none_left words_memory refusal usage memory = subst (LeavesNoStore 268435456 old new before now) (sym (memory refl)) tt
+  pub none_left : (error : WordsError) (refusal : Refusal) → (error ≡ words_usage → refusal ≡ Usage) → (error ≡ words_memory → refusal ≡ Memory) → LeavesNoStore store_bytes old new before now refusal
+  none_left words_usage refusal usage memory = subst (LeavesNoStore store_bytes old new before now) (sym (usage refl)) tt
+  none_left words_memory refusal usage memory = subst (LeavesNoStore store_bytes old new before now) (sym (memory refl)) tt
 
-  of_plan : (refusal : Refusal) → IsOfPlan refusal → LeavesNoStore 268435456 old new before now refusal
+  of_plan : (refusal : Refusal) → IsOfPlan refusal → LeavesNoStore store_bytes old new before now refusal
   of_plan Memory plain = tt
   of_plan Usage plain = tt
   of_plan UnknownRepo plain = tt
@@ -453,7 +454,7 @@ module _ (old new : Image) (before now : Past) where
   of_plan (IndexRefused file line) plain = tt
   of_plan (NotBuilt path) plain = tt
 
-  pub plan_left : (answer : Answer) → IfErr answer IsOfPlan → IfErr answer (LeavesNoStore 268435456 old new before now)
+  pub plan_left : (answer : Answer) → IfErr answer IsOfPlan → IfErr answer (LeavesNoStore store_bytes old new before now)
   plan_left (Ok text) plain = tt
   plan_left (Err refusal) plain = of_plan refusal plain
 
@@ -494,7 +495,7 @@ run_disk_of (Err (of_run.Ended (run.IndexRefused file line))) is = absurd (cc is
 -- ---- a command over the store, whichever it is
 
 pub store_damaged : (s : Sight) (words : List (List ℕ)) (text : Answer) → IsAnswered s words text → (tells : Type 0) (before after : List ℕ) (faults now code : ℕ) → IsTold tells before after faults now text code → s.disk_tells
-    → (repo : List ℕ) → IsOfStore words repo → (offset : ℕ) → IsDamaged 268435456 s.seen offset → IsDamagedOr code
+    → (repo : List ℕ) → IsOfStore words repo → (offset : ℕ) → IsDamaged store_bytes s.seen offset → IsDamagedOr code
 store_damaged s words text answered tells before after faults now code told d repo asked offset damaged = by asked
   where
     by : IsOfStore words repo → IsDamagedOr code

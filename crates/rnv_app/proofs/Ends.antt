@@ -2,6 +2,7 @@
 use Rattle.std.specs.Option.{IfSome}
 use Rattle.std.proofs.Common.{◌≡◌, ◌≢◌, ◌⊎◌, inl, inr, ℕ, List, ◌++◌, take, Result, Ok, Err, IsErrOf, sym, subst, ◌∙◌, ap, refl, arith}
 use Rattle.rnv_base.specs.Causes.{Rose}
+use Rattle.rnv_base.specs.Limits.{store_bytes}
 use Rattle.rnv_plan.specs.declared.error.RunError.{RunError}
 use Rattle.rnv_plan.specs.declared.error.RunError.TheVariants as run
 use Rattle.rnv_run.specs.declared.on_disk.RunRefusal.{RunRefusal}
@@ -176,15 +177,15 @@ run_complete s repo moment tells before after faults now code Folds Disks end t 
 
 -- a run whose refusal has this cause
 pub run_exactly : (s : Sight) (repo : List ℕ) (moment : ℕ) (tells : Type 0) (before after : List ℕ) (faults now code : ℕ) → IsRunEnd s repo moment tells before after faults now code → s.folder_tells → s.disk_tells
-    → (error : RunError) → IsRefusedIn s.files repo moment 268435456 s.seen error → IsRunCauseOr repo s.seen error code
+    → (error : RunError) → IsRefusedIn s.files repo moment store_bytes s.seen error → IsRunCauseOr repo s.seen error code
 run_exactly s repo moment tells before after faults now code end t d error cause = by end.answer end.told end.runs
   where
-    one : (e : RunError) → IsRefusedIn s.files repo moment 268435456 s.seen e → code ≡ error_status e → IsRunCauseOr repo s.seen error code
-    one e refused is = inl (is ∙ ap error_status (refused_one s.files repo moment 268435456 s.seen e error refused cause))
+    one : (e : RunError) → IsRefusedIn s.files repo moment store_bytes s.seen e → code ≡ error_status e → IsRunCauseOr repo s.seen error code
+    one e refused is = inl (is ∙ ap error_status (refused_one s.files repo moment store_bytes s.seen e error refused cause))
 
     by : (answer : Result (List ℕ) RunRefusal) → IsTold tells before after faults now (running answer) code → Runs s.folder_tells s.files s.disk_tells s.seen s.entry s.exit repo moment answer → IsRunCauseOr repo s.seen error code
-    by (Ok text) told runs = absurd (run_unrefused s.folder_tells s.files repo moment 268435456 s.seen s.entry s.exit text error t (runs.done d) cause)
-    by (Err (of_run.NotAJournal offset)) r runs = absurd (stored_whole 268435456 s.seen cause.old offset cause.stored (runs.refused t d))
+    by (Ok text) told runs = absurd (run_unrefused s.folder_tells s.files repo moment store_bytes s.seen s.entry s.exit text error t (runs.done d) cause)
+    by (Err (of_run.NotAJournal offset)) r runs = absurd (stored_whole store_bytes s.seen cause.old offset cause.stored (runs.refused t d))
     by (Err (of_run.Ended run.Memory)) r runs = inr (inl r.status)
     by (Err (of_run.Ended run.FolderFault)) r runs = inr (inr (inr (r.status, runs.image_told d)))
     by (Err (of_run.Ended run.DiskFault)) r runs = inr (inr (inl r.status))

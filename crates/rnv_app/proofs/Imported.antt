@@ -1,6 +1,7 @@
 -- An import is done or refused, and refused by one cause.
 use Rattle.std.proofs.Common.{◌≡◌, ◌≢◌, ◌≤◌, inl, inr, ◌⊎◌, ℕ, List, [], ◌∷◌, ◌++◌, length, refl, sym, ◌∙◌, ap, subst, arith}
 use Rattle.rnv_base.specs.Files.{NamedFile}
+use Rattle.rnv_base.specs.Limits.{store_bytes}
 use Rattle.rnv_checkout.specs.Base.{folder_of, IsWithin}
 use Rattle.rnv_checkout.specs.Refusal.{HasWrong}
 use Rattle.rnv_checkout.specs.declared.error.BaseError.TheVariants.{Limit as base_limit}
@@ -113,19 +114,19 @@ module _ (files : List NamedFile) (name : List ℕ) where
     number_is = room.number_is;
   })
 
-  pub no_import : (tells : Type 0) (image : Image) (error : CommandError) → tells → IsCaused error → IsRefusedIn tells files name 268435456 image error → HasNoImport files name image error
+  pub no_import : (tells : Type 0) (image : Image) (error : CommandError) → tells → IsCaused error → IsRefusedIn tells files name store_bytes image error → HasNoImport files name image error
   no_import tells image error t caused refused =
-      record { caused = caused; refused = record { old = refused.old; stored = refused.stored; refused = refusal_under tells 268435456 refused.old error t caused refused.refused } }
+      record { caused = caused; refused = record { old = refused.old; stored = refused.stored; refused = refusal_under tells store_bytes refused.old error t caused refused.refused } }
 
   -- an import that was done had no cause of a refusal in the image
-  pub import_fine : (tells : Type 0) (image : Image) (past : Past) (text : List ℕ) (error : CommandError) → tells → HasImported tells files name 268435456 image past text → ¬ (HasNoImport files name image error)
+  pub import_fine : (tells : Type 0) (image : Image) (past : Past) (text : List ℕ) (error : CommandError) → tells → HasImported tells files name store_bytes image past text → ¬ (HasNoImport files name image error)
   import_fine tells image past text error t has none =
-      let same : none.refused.old ≡ has.old = one_stored 268435456 image none.refused.old has.old none.refused.stored has.stored in
-      done_fine has.old tells 268435456 has.imported.new error t has.imported.prints.import has.imported.room none.caused
-      (subst (λ (ws : List Write). IsImportRefusal (Unit {0}) files name 268435456 ws error) same none.refused.refused)
+      let same : none.refused.old ≡ has.old = one_stored store_bytes image none.refused.old has.old none.refused.stored has.stored in
+      done_fine has.old tells store_bytes has.imported.new error t has.imported.prints.import has.imported.room none.caused
+      (subst (λ (ws : List Write). IsImportRefusal (Unit {0}) files name store_bytes ws error) same none.refused.refused)
 
   -- two causes in one image have one status
   pub import_one : (image : Image) (e f : CommandError) → HasNoImport files name image e → HasNoImport files name image f → code_of (refusal_of e) ≡ code_of (refusal_of f)
   import_one image e f a b =
-      let same : a.refused.old ≡ b.refused.old = one_stored 268435456 image a.refused.old b.refused.old a.refused.stored b.refused.stored in
-      one_status b.refused.old 268435456 e f a.caused b.caused (subst (λ (ws : List Write). IsImportRefusal (Unit {0}) files name 268435456 ws e) same a.refused.refused) b.refused.refused
+      let same : a.refused.old ≡ b.refused.old = one_stored store_bytes image a.refused.old b.refused.old a.refused.stored b.refused.stored in
+      one_status b.refused.old store_bytes e f a.caused b.caused (subst (λ (ws : List Write). IsImportRefusal (Unit {0}) files name store_bytes ws e) same a.refused.refused) b.refused.refused

@@ -1,6 +1,7 @@
 -- What each status tells of a command over the store.
 use Rattle.std.proofs.Common.{◌≡◌, ◌≢◌, ◌⊎◌, inl, inr, ℕ, List, [], None, Some, Result, Ok, Err, IfErr, sym, subst, ◌∙◌, ap, refl, arith}
 use Rattle.rnv_base.specs.Causes.{Rose}
+use Rattle.rnv_base.specs.Limits.{store_bytes}
 use Rattle.rnv_commands.specs.OnDisk.{IsDamaged, IsShownOf, IsStored, IsUnknownIn, LeavesNoStore as CommandLeaves}
 use Rattle.rnv_commands.specs.declared.error.CommandError.{CommandError}
 use Rattle.rnv_commands.specs.declared.error.CommandError.TheVariants as command
@@ -36,8 +37,8 @@ module _ (s : Sight) (repo : List ℕ) (out_tells : Type 0) (before after : List
   Told answer = IsTold out_tells before after faults now answer code
 
   -- a store is no damaged one
-  whole : (old : List Write) (offset : ℕ) → IsDamaged 268435456 s.seen offset → IsStored 268435456 s.seen old → IsDamagedOr code
-  whole old offset damaged stored = absurd (stored_whole 268435456 s.seen old offset stored damaged)
+  whole : (old : List Write) (offset : ℕ) → IsDamaged store_bytes s.seen offset → IsStored store_bytes s.seen old → IsDamagedOr code
+  whole old offset damaged stored = absurd (stored_whole store_bytes s.seen old offset stored damaged)
 
   -- ---- import
 
@@ -67,10 +68,10 @@ module _ (s : Sight) (repo : List ℕ) (out_tells : Type 0) (before after : List
         by (Err command.UnknownRepo) r is = one command.UnknownRepo (no_import s.files repo s.folder_tells s.seen command.UnknownRepo t tt (is.refused d)) r.status
         by (Err command.FolderFault) r is = inr (inr (inr r.status))
         by (Err command.DiskFault) r is = inr (inr (inl r.status))
-        by (Err (command.NotAJournal offset)) r is = absurd (stored_whole 268435456 s.seen cause.refused.old offset cause.refused.stored (is.refused d))
+        by (Err (command.NotAJournal offset)) r is = absurd (stored_whole store_bytes s.seen cause.refused.old offset cause.refused.stored (is.refused d))
         by (Err (command.Limit which number)) r is = one (command.Limit which number) (no_import s.files repo s.folder_tells s.seen (command.Limit which number) t tt (is.refused d)) r.status
 
-    pub import_damaged : (offset : ℕ) → IsDamaged 268435456 s.seen offset → IsDamagedOr code
+    pub import_damaged : (offset : ℕ) → IsDamaged store_bytes s.seen offset → IsDamagedOr code
     import_damaged offset damaged = by end.answer end.told end.imports
       where
         by : (answer : Result (List ℕ) CommandError) → Told (refusing answer) → Imports s repo answer → IsDamagedOr code
@@ -98,11 +99,11 @@ module _ (s : Sight) (repo : List ℕ) (out_tells : Type 0) (before after : List
         by (Err (command.NotAJournal offset)) r is = absurd (free.whole offset (is.refused d))
         by (Err (command.Limit which number)) r is = absurd (is.refused d)
 
-    pub show_exactly : IsUnknownIn repo 268435456 s.seen → IsUnknownOr code
+    pub show_exactly : IsUnknownIn repo store_bytes s.seen → IsUnknownOr code
     show_exactly lacks = by end.answer end.told end.showing
       where
-        shown : (text : List ℕ) → ¬ (IsShownOf repo 268435456 s.seen text)
-        shown text has = unknown_known repo 268435456 s.seen has.writes has.shows.repo has.stored has.shows.known lacks
+        shown : (text : List ℕ) → ¬ (IsShownOf repo store_bytes s.seen text)
+        shown text has = unknown_known repo store_bytes s.seen has.writes has.shows.repo has.stored has.shows.known lacks
 
         by : (answer : Result (List ℕ) CommandError) → Told (refusing answer) → IsShowing s repo answer → IsUnknownOr code
         by (Ok text) told is = absurd (shown text (is.shown d))
@@ -110,10 +111,10 @@ module _ (s : Sight) (repo : List ℕ) (out_tells : Type 0) (before after : List
         by (Err command.UnknownRepo) r is = inl r.status
         by (Err command.FolderFault) r is = absurd (is.refused d)
         by (Err command.DiskFault) r is = inr (inr r.status)
-        by (Err (command.NotAJournal offset)) r is = absurd (stored_whole 268435456 s.seen lacks.writes offset lacks.stored (is.refused d))
+        by (Err (command.NotAJournal offset)) r is = absurd (stored_whole store_bytes s.seen lacks.writes offset lacks.stored (is.refused d))
         by (Err (command.Limit which number)) r is = absurd (is.refused d)
 
-    pub show_damaged : (offset : ℕ) → IsDamaged 268435456 s.seen offset → IsDamagedOr code
+    pub show_damaged : (offset : ℕ) → IsDamaged store_bytes s.seen offset → IsDamagedOr code
     show_damaged offset damaged = by end.answer end.told end.showing
       where
         by : (answer : Result (List ℕ) CommandError) → Told (refusing answer) → IsShowing s repo answer → IsDamagedOr code
@@ -131,17 +132,17 @@ module _ (s : Sight) (repo : List ℕ) (out_tells : Type 0) (before after : List
     abbrev Ran : Result (List ℕ) RunRefusal → Type 0
     Ran answer = Runs s.folder_tells s.files s.disk_tells s.seen s.entry s.exit repo moment answer
 
-    pub run_unknown : IsUnknownIn repo 268435456 s.seen → IsUnknownOr code
+    pub run_unknown : IsUnknownIn repo store_bytes s.seen → IsUnknownOr code
     run_unknown lacks = by end.answer end.told end.runs
       where
-        there : HasRepo repo 268435456 s.seen → IsUnknownOr code
-        there has = absurd (unknown_known repo 268435456 s.seen has.old has.repo has.stored has.there lacks)
+        there : HasRepo repo store_bytes s.seen → IsUnknownOr code
+        there has = absurd (unknown_known repo store_bytes s.seen has.old has.repo has.stored has.there lacks)
 
         by : (answer : Result (List ℕ) RunRefusal) → Told (running answer) → Ran answer → IsUnknownOr code
         by (Ok text) told is =
             let has = is.done d in
-            absurd (unknown_known repo 268435456 s.seen has.old has.leaves.done.run.repo has.stored has.leaves.done.run.there lacks)
-        by (Err (of_run.NotAJournal offset)) r is = absurd (stored_whole 268435456 s.seen lacks.writes offset lacks.stored (is.image_told d))
+            absurd (unknown_known repo store_bytes s.seen has.old has.leaves.done.run.repo has.stored has.leaves.done.run.there lacks)
+        by (Err (of_run.NotAJournal offset)) r is = absurd (stored_whole store_bytes s.seen lacks.writes offset lacks.stored (is.image_told d))
         by (Err (of_run.Ended run.Memory)) r is = inr (inl r.status)
         by (Err (of_run.Ended run.FolderFault)) r is = there (is.image_told d)
         by (Err (of_run.Ended run.DiskFault)) r is = inr (inr r.status)
@@ -150,10 +151,10 @@ module _ (s : Sight) (repo : List ℕ) (out_tells : Type 0) (before after : List
         by (Err (of_run.Ended (run.Limit which number))) r is = there (is.image_told d)
         by (Err (of_run.Ended (run.IndexRefused path line))) r is = there (is.image_told d)
 
-    pub run_damaged : (offset : ℕ) → IsDamaged 268435456 s.seen offset → IsDamagedOr code
+    pub run_damaged : (offset : ℕ) → IsDamaged store_bytes s.seen offset → IsDamagedOr code
     run_damaged offset damaged = by end.answer end.told end.runs
       where
-        there : HasRepo repo 268435456 s.seen → IsDamagedOr code
+        there : HasRepo repo store_bytes s.seen → IsDamagedOr code
         there has = whole has.old offset damaged has.stored
 
         by : (answer : Result (List ℕ) RunRefusal) → Told (running answer) → Ran answer → IsDamagedOr code
@@ -170,7 +171,7 @@ module _ (s : Sight) (repo : List ℕ) (out_tells : Type 0) (before after : List
 -- ---- what is left of a disk whose bytes are no store
 
 module _ (old new : Image) (before now : Past) where
-  command_left : (answer : Result (List ℕ) CommandError) → IfErr answer (CommandLeaves 268435456 old new before now) → IfErr (refusing answer) (LeavesNoStore 268435456 old new before now)
+  command_left : (answer : Result (List ℕ) CommandError) → IfErr answer (CommandLeaves store_bytes old new before now) → IfErr (refusing answer) (LeavesNoStore store_bytes old new before now)
   command_left (Ok text) left = tt
   command_left (Err command.Memory) left = tt
   command_left (Err command.UnknownRepo) left = tt
@@ -179,10 +180,10 @@ module _ (old new : Image) (before now : Past) where
   command_left (Err (command.NotAJournal offset)) left = left
   command_left (Err (command.Limit which number)) left = tt
 
-  pub refusing_left : (answer : Result (List ℕ) CommandError) (text : Result (List ℕ) Refusal) → text ≡ refusing answer → IfErr answer (CommandLeaves 268435456 old new before now) → IfErr text (LeavesNoStore 268435456 old new before now)
-  refusing_left answer text is left = subst (λ (a : Result (List ℕ) Refusal). IfErr a (LeavesNoStore 268435456 old new before now)) (sym is) (command_left answer left)
+  pub refusing_left : (answer : Result (List ℕ) CommandError) (text : Result (List ℕ) Refusal) → text ≡ refusing answer → IfErr answer (CommandLeaves store_bytes old new before now) → IfErr text (LeavesNoStore store_bytes old new before now)
+  refusing_left answer text is left = subst (λ (a : Result (List ℕ) Refusal). IfErr a (LeavesNoStore store_bytes old new before now)) (sym is) (command_left answer left)
 
-  run_left : (answer : Result (List ℕ) RunRefusal) → IfErr answer (RunLeaves 268435456 old new before now) → IfErr (running answer) (LeavesNoStore 268435456 old new before now)
+  run_left : (answer : Result (List ℕ) RunRefusal) → IfErr answer (RunLeaves store_bytes old new before now) → IfErr (running answer) (LeavesNoStore store_bytes old new before now)
   run_left (Ok text) left = tt
   run_left (Err (of_run.NotAJournal offset)) left = left
   run_left (Err (of_run.Ended run.Memory)) left = tt
@@ -193,9 +194,9 @@ module _ (old new : Image) (before now : Past) where
   run_left (Err (of_run.Ended (run.Limit which number))) left = tt
   run_left (Err (of_run.Ended (run.IndexRefused path line))) left = tt
 
-  pub running_left : (answer : Result (List ℕ) RunRefusal) (text : Result (List ℕ) Refusal) → text ≡ running answer → IfErr answer (RunLeaves 268435456 old new before now) → IfErr text (LeavesNoStore 268435456 old new before now)
-  running_left answer text is left = subst (λ (a : Result (List ℕ) Refusal). IfErr a (LeavesNoStore 268435456 old new before now)) (sym is) (run_left answer left)
+  pub running_left : (answer : Result (List ℕ) RunRefusal) (text : Result (List ℕ) Refusal) → text ≡ running answer → IfErr answer (RunLeaves store_bytes old new before now) → IfErr text (LeavesNoStore store_bytes old new before now)
+  running_left answer text is left = subst (λ (a : Result (List ℕ) Refusal). IfErr a (LeavesNoStore store_bytes old new before now)) (sym is) (run_left answer left)
 
   -- at 8
-  pub left_at : (answer : Result (List ℕ) Refusal) (offset : ℕ) → answer ≡ Err (NotAJournal offset) → IfErr answer (LeavesNoStore 268435456 old new before now) → IsLeftAlone 268435456 old new before now
-  left_at answer offset is left = (offset, subst (λ (a : Result (List ℕ) Refusal). IfErr a (LeavesNoStore 268435456 old new before now)) is left)
+  pub left_at : (answer : Result (List ℕ) Refusal) (offset : ℕ) → answer ≡ Err (NotAJournal offset) → IfErr answer (LeavesNoStore store_bytes old new before now) → IsLeftAlone store_bytes old new before now
+  left_at answer offset is left = (offset, subst (λ (a : Result (List ℕ) Refusal). IfErr a (LeavesNoStore store_bytes old new before now)) is left)

@@ -1,6 +1,7 @@
 -- What the program does for its words, over the told files of a folder and the told bytes of a disk.
 use Rattle.std.specs.Prelude.{◌≡◌, ◌≢◌, ◌⊎◌, ℕ, List, ◌++◌, take, Result, Ok, Err, IfErr, IfOk}
 use Rattle.rnv_base.specs.Files.{NamedFile}
+use Rattle.rnv_base.specs.Limits.{store_bytes}
 use Rattle.rnv_base.specs.Moment.{IsMomentText}
 use Rattle.rnv_commands.specs.OnDisk.{IsDamaged, HasImported, IsNotImported, IsNotShown, IsReadingOrImport, IsRefusedIn as IsImportRefusedIn, IsShownOf, IsUnknownIn}
 use Rattle.rnv_commands.specs.declared.error.CommandError.{CommandError}
@@ -117,16 +118,16 @@ pub record Sight : Type 1 where
 -- write that makes the base the folder's files; where it is refused, but for a fault of the disk, one of these. A text tells that the
 -- store has the folder's files as base; a refusal tells its cause.
 pub record Imports (s : Sight) (repo : List ℕ) (answer : Result (List ℕ) CommandError) : Type 0 where
-  pub stops : HasReadingsNow 268435456 s.entry → ReadsOnly 268435456 s.entry s.exit (IsReadingOrImport s.folder_tells s.files repo 268435456 s.entry)
-  pub unwritten : IfErr answer (λ error. error ≢ command.DiskFault → KeepsReadings 268435456 s.entry s.exit)
-  pub imported : s.disk_tells → IfOk answer (HasImported s.folder_tells s.files repo 268435456 s.seen s.exit)
-  pub refused : s.disk_tells → IfErr answer (IsNotImported s.folder_tells s.files repo 268435456 s.seen)
+  pub stops : HasReadingsNow store_bytes s.entry → ReadsOnly store_bytes s.entry s.exit (IsReadingOrImport s.folder_tells s.files repo store_bytes s.entry)
+  pub unwritten : IfErr answer (λ error. error ≢ command.DiskFault → KeepsReadings store_bytes s.entry s.exit)
+  pub imported : s.disk_tells → IfOk answer (HasImported s.folder_tells s.files repo store_bytes s.seen s.exit)
+  pub refused : s.disk_tells → IfErr answer (IsNotImported s.folder_tells s.files repo store_bytes s.seen)
 
 -- What is shown of the disk, on which nothing is written.
 pub record IsShowing (s : Sight) (repo : List ℕ) (answer : Result (List ℕ) CommandError) : Type 0 where
-  pub stops : KeepsReadings 268435456 s.entry s.exit
-  pub shown : s.disk_tells → IfOk answer (IsShownOf repo 268435456 s.seen)
-  pub refused : s.disk_tells → IfErr answer (IsNotShown repo 268435456 s.seen)
+  pub stops : KeepsReadings store_bytes s.entry s.exit
+  pub shown : s.disk_tells → IfOk answer (IsShownOf repo store_bytes s.seen)
+  pub refused : s.disk_tells → IfErr answer (IsNotShown repo store_bytes s.seen)
 
 -- the text of a command over the store, or its refusal as the program's
 abbrev pub refusing : Result (List ℕ) CommandError → Result (List ℕ) Refusal
@@ -160,8 +161,8 @@ pub record IsRunEnd (s : Sight) (repo : List ℕ) (moment : ℕ) (out_tells : Ty
 
 -- the image is a store, and neither it nor the folder's files are the cause of a refusal of a run
 pub record IsFreeRun (files : List NamedFile) (repo : List ℕ) (moment : ℕ) (image : Image) : Type 0 where
-  pub whole : (offset : ℕ) → ¬ (IsDamaged 268435456 image offset)
-  pub free : (error : RunError) → ¬ (IsRefusedIn files repo moment 268435456 image error)
+  pub whole : (offset : ℕ) → ¬ (IsDamaged store_bytes image offset)
+  pub free : (error : RunError) → ¬ (IsRefusedIn files repo moment store_bytes image error)
 
 -- ---- causes of refusals over the store
 
@@ -178,22 +179,22 @@ IsCaused (command.Limit which number) = Unit {0}
 -- them, or the one write has no room
 pub record HasNoImport (files : List NamedFile) (repo : List ℕ) (image : Image) (error : CommandError) : Type 0 where
   pub caused : IsCaused error
-  pub refused : IsImportRefusedIn (Unit {0}) files repo 268435456 image error
+  pub refused : IsImportRefusedIn (Unit {0}) files repo store_bytes image error
 
 -- the image is a store, and neither it nor the folder's files are the cause of a refusal of an import
 pub record IsFreeImport (files : List NamedFile) (repo : List ℕ) (image : Image) : Type 0 where
-  pub whole : (offset : ℕ) → ¬ (IsDamaged 268435456 image offset)
+  pub whole : (offset : ℕ) → ¬ (IsDamaged store_bytes image offset)
   pub free : (error : CommandError) → ¬ (HasNoImport files repo image error)
 
 -- the image is a store, which does not lack the repository
 pub record IsFreeShow (repo : List ℕ) (image : Image) : Type 0 where
-  pub whole : (offset : ℕ) → ¬ (IsDamaged 268435456 image offset)
-  pub known : ¬ (IsUnknownIn repo 268435456 image)
+  pub whole : (offset : ℕ) → ¬ (IsDamaged store_bytes image offset)
+  pub known : ¬ (IsUnknownIn repo store_bytes image)
 
 -- What may come where this is the cause of a refusal in the store and the folder's files: its status; or before it want of memory, a
 -- fault of the disk, or one of the folder, for which the store has to have the repository.
 abbrev pub IsRunCauseOr : List ℕ → Image → RunError → ℕ → Type 0
-IsRunCauseOr repo image error code = (code ≡ status_of error) ⊎ ((code ≡ 1) ⊎ ((code ≡ 7) ⊎ ((code ≡ 5) × HasRepo repo 268435456 image)))
+IsRunCauseOr repo image error code = (code ≡ status_of error) ⊎ ((code ≡ 1) ⊎ ((code ≡ 7) ⊎ ((code ≡ 5) × HasRepo repo store_bytes image)))
 
 -- the same of an import: its status; or before it want of memory, or a fault of the disk or of the folder
 abbrev pub IsImportCauseOr : CommandError → ℕ → Type 0
@@ -257,7 +258,7 @@ pub record IsForRun (s : Sight) (words : List (List ℕ)) (text : Result (List �
 
 pub record IsForNone (s : Sight) (words : List (List ℕ)) (text : Result (List ℕ) Refusal) : Type 0 where
   pub same : s.same_disk
-  pub keeps : KeepsReadings 268435456 s.entry s.exit
+  pub keeps : KeepsReadings store_bytes s.entry s.exit
   pub refused : ((text ≡ Err Usage) × IsUsage words) ⊎ ((text ≡ Err Memory) × ¬ (IsUsage words))
 
 abbrev pub IsAnswered : Sight → List (List ℕ) → Result (List ℕ) Refusal → Type 0

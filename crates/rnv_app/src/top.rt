@@ -1,6 +1,7 @@
 ghost use Rattle.std.specs.Prelude.{◌≡◌, ◌↔◌, ◌⊎◌, ◌≤◌, ℕ, List as Items, Result, IfOk, IfErr, IfSome};
 ghost use Rattle.rnv_base.specs.Causes.{Rose, FaultsBy};
 ghost use Rattle.rnv_base.specs.Files.{NamedFile};
+ghost use Rattle.rnv_base.specs.Limits.{store_bytes};
 ghost use Rattle.rnv_app.specs.Refusals.{line_of, status_of, IsCause, IsCauseOr, IsLine, IsStatus, IsTold};
 ghost use Rattle.rnv_app.specs.Top.{refusing, HasNoImport, HasNoPlan, HasPlan, IsAnswered, IsDamagedOr, IsForImport, IsForRun, IsForShow, IsFree, IsFreeImport, IsFreeRun, IsFreeShow, IsImportCauseOr, IsImportEnd, IsLeftAlone, IsNamed, IsOfPlan, IsPrinted, IsPrintedInPart, IsRefusedWith, IsRunCauseOr, IsRunEnd, IsShowEnd, IsUnknownOr, LeavesNoStore, Tells, running};
 ghost use Rattle.rnv_app.specs.Words.{IsImport, IsOfStore, IsPlan, IsRun, IsShow, IsUsage};
@@ -101,7 +102,7 @@ pub fn renovate<K: Sink, O: Folder, D: Disk>(
 
     // File `One` of the disk is left alone, and so is what is no store, and the whole disk by words that ask for nothing.
     ensures other { KeepsOne (D.past outside.disk) (D.past result.outside.disk) }
-    ensures left { D.tells → result.status.code ≡ 8 → IsLeftAlone 268435456 (D.seen outside.disk) (D.seen result.outside.disk) (D.past outside.disk) (D.past result.outside.disk) }
+    ensures left { D.tells → result.status.code ≡ 8 → IsLeftAlone store_bytes (D.seen outside.disk) (D.seen result.outside.disk) (D.past outside.disk) (D.past result.outside.disk) }
     ensures usage_alone { result.status.code ≡ 2 → result.outside.disk ≡ outside.disk }
 
     // What a command over the store answers where it has no cause of a refusal and nothing fails.
@@ -112,11 +113,11 @@ pub fn renovate<K: Sink, O: Folder, D: Disk>(
     // Each cause of its refusal, but for want of memory or a fault before it. First that the bytes are no store; then, but for an import,
     // that the store lacks the repository; then of an import and of a run the others. So a fault of the folder comes only where the bytes
     // are a store, and in a run where it has the repository.
-    ensures damaged { (repo : Items ℕ) → IsOfStore words.now repo → D.tells → (offset : ℕ) → IsDamaged 268435456 (D.seen outside.disk) offset → IsDamagedOr result.status.code }
+    ensures damaged { (repo : Items ℕ) → IsOfStore words.now repo → D.tells → (offset : ℕ) → IsDamaged store_bytes (D.seen outside.disk) offset → IsDamagedOr result.status.code }
     ensures import_exactly { (repo : Items ℕ) → IsImport words.now repo → O.tells → D.tells → (error : StoreError) → HasNoImport (O.files outside.folder) repo (D.seen outside.disk) error → IsImportCauseOr error result.status.code }
-    ensures show_exactly { (repo : Items ℕ) → IsShow words.now repo → D.tells → IsUnknownIn repo 268435456 (D.seen outside.disk) → IsUnknownOr result.status.code }
-    ensures run_unknown { (repo : Items ℕ) (now : ℕ) → IsRun words.now repo now → D.tells → IsUnknownIn repo 268435456 (D.seen outside.disk) → IsUnknownOr result.status.code }
-    ensures run_exactly { (repo : Items ℕ) (now : ℕ) → IsRun words.now repo now → O.tells → D.tells → (error : Error) → IsRefusedIn (O.files outside.folder) repo now 268435456 (D.seen outside.disk) error → IsRunCauseOr repo (D.seen outside.disk) error result.status.code }
+    ensures show_exactly { (repo : Items ℕ) → IsShow words.now repo → D.tells → IsUnknownIn repo store_bytes (D.seen outside.disk) → IsUnknownOr result.status.code }
+    ensures run_unknown { (repo : Items ℕ) (now : ℕ) → IsRun words.now repo now → D.tells → IsUnknownIn repo store_bytes (D.seen outside.disk) → IsUnknownOr result.status.code }
+    ensures run_exactly { (repo : Items ℕ) (now : ℕ) → IsRun words.now repo now → O.tells → D.tells → (error : Error) → IsRefusedIn (O.files outside.folder) repo now store_bytes (D.seen outside.disk) error → IsRunCauseOr repo (D.seen outside.disk) error result.status.code }
 
     ensures same { O.tells → (O.files result.outside.folder ≡ O.files outside.folder) }
     ensures folder_later { O.faults outside.folder ≤ O.faults result.outside.folder }
@@ -152,7 +153,7 @@ fn answer_to<O: Folder, D: Disk>(
 ) -> Answered<D>
     ensures answered { IsAnswered (record { folder_tells = O.tells; files = O.files folder.old; disk_tells = D.tells; seen = D.seen disk; entry = D.past disk; exit = D.past result.disk; same_disk = result.disk ≡ disk }) words.now result.text }
     ensures other { KeepsOne (D.past disk) (D.past result.disk) }
-    ensures left { D.tells → IfErr result.text (LeavesNoStore 268435456 (D.seen disk) (D.seen result.disk) (D.past disk) (D.past result.disk)) }
+    ensures left { D.tells → IfErr result.text (LeavesNoStore store_bytes (D.seen disk) (D.seen result.disk) (D.past disk) (D.past result.disk)) }
     ensures same { O.tells → (O.files folder.new ≡ O.files folder.old) }
     ensures folder_cause { FaultsBy (O.faults folder.old) (O.faults folder.new) result.text folder_fault }
     ensures disk_cause { FaultsBy (D.faults disk) (D.faults result.disk) result.text disk_fault }
@@ -203,7 +204,7 @@ fn import_for<O: Folder, D: Disk>(
     requires { IsImport words.now repo.now }
     ensures answered { IsForImport (record { folder_tells = O.tells; files = O.files folder.old; disk_tells = D.tells; seen = D.seen disk; entry = D.past disk; exit = D.past result.disk; same_disk = result.disk ≡ disk }) words.now result.text }
     ensures other { KeepsOne (D.past disk) (D.past result.disk) }
-    ensures left { D.tells → IfErr result.text (LeavesNoStore 268435456 (D.seen disk) (D.seen result.disk) (D.past disk) (D.past result.disk)) }
+    ensures left { D.tells → IfErr result.text (LeavesNoStore store_bytes (D.seen disk) (D.seen result.disk) (D.past disk) (D.past result.disk)) }
     ensures same { O.tells → (O.files folder.new ≡ O.files folder.old) }
     ensures folder_cause { FaultsBy (O.faults folder.old) (O.faults folder.new) result.text folder_fault }
     ensures disk_cause { FaultsBy (D.faults disk) (D.faults result.disk) result.text disk_fault }
@@ -237,7 +238,7 @@ fn run_for<O: Folder, D: Disk>(
     requires { IsRun words.now repo.now now }
     ensures answered { IsForRun (record { folder_tells = O.tells; files = O.files folder.old; disk_tells = D.tells; seen = D.seen disk; entry = D.past disk; exit = D.past result.disk; same_disk = result.disk ≡ disk }) words.now result.text }
     ensures other { KeepsOne (D.past disk) (D.past result.disk) }
-    ensures left { D.tells → IfErr result.text (LeavesNoStore 268435456 (D.seen disk) (D.seen result.disk) (D.past disk) (D.past result.disk)) }
+    ensures left { D.tells → IfErr result.text (LeavesNoStore store_bytes (D.seen disk) (D.seen result.disk) (D.past disk) (D.past result.disk)) }
     ensures same { O.tells → (O.files folder.new ≡ O.files folder.old) }
     ensures folder_cause { FaultsBy (O.faults folder.old) (O.faults folder.new) result.text folder_fault }
     ensures disk_cause { FaultsBy (D.faults disk) (D.faults result.disk) result.text disk_fault }
@@ -261,7 +262,7 @@ fn show_for<O: Folder, D: Disk>(
     requires { IsShow words.now repo.now }
     ensures answered { IsForShow (record { folder_tells = O.tells; files = O.files folder.old; disk_tells = D.tells; seen = D.seen disk; entry = D.past disk; exit = D.past result.disk; same_disk = result.disk ≡ disk }) words.now result.text }
     ensures other { KeepsOne (D.past disk) (D.past result.disk) }
-    ensures left { D.tells → IfErr result.text (LeavesNoStore 268435456 (D.seen disk) (D.seen result.disk) (D.past disk) (D.past result.disk)) }
+    ensures left { D.tells → IfErr result.text (LeavesNoStore store_bytes (D.seen disk) (D.seen result.disk) (D.past disk) (D.past result.disk)) }
     ensures same { folder.new ≡ folder.old }
     ensures folder_cause { FaultsBy (O.faults folder.old) (O.faults folder.new) result.text folder_fault }
     ensures disk_cause { FaultsBy (D.faults disk) (D.faults result.disk) result.text disk_fault }

@@ -3,6 +3,7 @@ use Rattle.std.specs.Prelude.{◌≡◌, ◌≢◌, ℕ, ◌+◌, ◌<◌, ◌�
 use Rattle.std.specs.List.{AllZip, flat_map}
 use Rattle.std.specs.Str.{IsUtf8}
 use Rattle.rnv_base.specs.Files.{NamedFile, read_of, listed_of}
+use Rattle.rnv_base.specs.Limits.{base_bytes, base_files}
 use Rattle.rnv_base.specs.Names.{IsPath, segments}
 
 -- the front of the paths of a repository's files
@@ -52,5 +53,5 @@ size_of kept = sum_by (λ f. length f.bytes) kept
 -- one file at least, at most 20,000 files, and at most 67,108,864 bytes
 pub record IsWithin (kept : List NamedFile) : Type 0 where
   pub some : 0 < length kept
-  pub few : length kept ≤ 20000
-  pub small : size_of kept ≤ 67108864
+  pub few : length kept ≤ base_files
+  pub small : size_of kept ≤ base_bytes

@@ -1,6 +1,7 @@
 -- What is gathered of the paths of a folder.
 use Rattle.std.specs.Prelude.{◌≡◌, ◌+◌, ◌-◌, ◌^◌, ◌≤◌, List, length, min, Option}
 use Rattle.rnv_base.specs.Files.{NamedFile}
+use Rattle.rnv_base.specs.Limits.{base_bytes, base_files}
 use Rattle.rnv_checkout.specs.declared.gathered.Gathered.{Gathered}
 use Rattle.rnv_checkout.specs.Base.{kept_of, size_of}
 
@@ -10,4 +11,4 @@ pub record IsGathered (gathered : Gathered) (outcomes : List (Option NamedFile))
   pub count : gathered.count ≡ min (length (kept_of outcomes)) (2 ^ 64 - 1)
   pub bytes : gathered.bytes ≡ min (size_of (kept_of outcomes)) (2 ^ 64 - 1)
   pub passed : gathered.passed + length (kept_of outcomes) ≡ length outcomes
-  pub files : length (kept_of outcomes) ≤ 20000 → size_of (kept_of outcomes) ≤ 67108864 → gathered.files ≡ kept_of outcomes
+  pub files : length (kept_of outcomes) ≤ base_files → size_of (kept_of outcomes) ≤ base_bytes → gathered.files ≡ kept_of outcomes

@@ -1,6 +1,7 @@
 -- Why a base is not read.
 use Rattle.std.specs.Prelude.{◌≡◌, ◌⊎◌, ℕ, ◌<◌, ◌≤◌, List, [], length, codes}
 use Rattle.rnv_base.specs.Files.{NamedFile}
+use Rattle.rnv_base.specs.Limits.{base_bytes, base_files}
 use Rattle.rnv_checkout.specs.declared.error.BaseError.{BaseError}
 use Rattle.rnv_checkout.specs.declared.error.BaseError.TheVariants.{FolderFault, Limit, UnknownRepo, Memory}
 use Rattle.rnv_checkout.specs.Base.{IsBase, size_of}
@@ -8,8 +9,8 @@ use Rattle.rnv_checkout.specs.Base.{IsBase, size_of}
 -- more files than the limit, or else more bytes
 abbrev pub IsAbove : List ℕ → ℕ → List NamedFile → Type 0
 IsAbove which number kept =
-    ((which ≡ codes "files") × (number ≡ 20000) × (20000 < length kept))
-    ⊎ ((which ≡ codes "base") × (number ≡ 67108864) × (length kept ≤ 20000) × (67108864 < size_of kept))
+    ((which ≡ codes "files") × (number ≡ base_files) × (base_files < length kept))
+    ⊎ ((which ≡ codes "base") × (number ≡ base_bytes) × (length kept ≤ base_files) × (base_bytes < size_of kept))
 
 -- what is wrong with the files that are kept
 abbrev pub IsWrong : BaseError → List NamedFile → Type 0

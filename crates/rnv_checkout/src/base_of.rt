@@ -5,9 +5,9 @@ ghost use Rattle.rnv_checkout.specs.Gathered.{IsGathered};
 ghost use Rattle.rnv_checkout.specs.Refusal.{IsWrong};
 ghost use Rattle.rnv_checkout.specs.declared.error.BaseError.TheVariants.{FolderFault as fault};
 
-use crate::gathered::{Gathered, MOST_BYTES, MOST_FILES};
+use crate::gathered::Gathered;
 use crate::{BaseError, FolderBase};
-use rnv_base::Text;
+use rnv_base::{BASE_BYTES, BASE_FILES, Text};
 use std::alloc::Global;
 
 // The base of what is gathered, or what is wrong with it.
@@ -18,16 +18,16 @@ pub(crate) fn judged(alloc: Global, gathered: Gathered) -> Result<FolderBase, Ba
     ensures wrong { IfErr result (λ error. (outcomes : Items (Option NamedFile)) → IsGathered gathered outcomes → IsWrong error (kept_of outcomes)) }
     ensures told { ¬ IsErrOf result fault }
 {
-    if gathered.count > MOST_FILES {
+    if gathered.count > BASE_FILES as u64 {
         return Err(BaseError::Limit {
             which: Text::copied(alloc, "files")?,
-            number: MOST_FILES,
+            number: BASE_FILES as u64,
         });
     }
-    if gathered.bytes > MOST_BYTES {
+    if gathered.bytes > BASE_BYTES {
         return Err(BaseError::Limit {
             which: Text::copied(alloc, "base")?,
-            number: MOST_BYTES,
+            number: BASE_BYTES,
         });
     }
     if gathered.count == 0 {

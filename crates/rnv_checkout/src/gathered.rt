@@ -1,16 +1,12 @@
 ghost use Rattle.std.specs.Prelude.{◌≡◌, ◌↔◌, ◌+◌, ◌<◌, ◌≤◌, ◌++◌, ◌∷◌, List as Items, [], Option, Some, IsTrue, OnOk};
 ghost use Rattle.rnv_base.specs.Files.{NamedFile};
+ghost use Rattle.rnv_base.specs.Limits.{base_bytes, base_files};
 ghost use Rattle.rnv_checkout.specs.Gathered.{IsGathered};
 
-use rnv_base::List;
+use rnv_base::{BASE_BYTES, BASE_FILES, List};
 use rnv_repo::EditedFile;
 use std::alloc::{AllocError, Global};
 use std::convert::AsSlice;
-
-// The most files of a base, and the most bytes of them together.
-pub(crate) const MOST_FILES: u64 = 20_000;
-
-pub(crate) const MOST_BYTES: u64 = 67_108_864;
 
 // The files that are kept so far, as long as they are within the limits, how many they are, how many bytes they have, and how many others there are.
 #[derive(Drop)]
@@ -36,9 +32,9 @@ impl Gathered {
 
     // Whether what is kept so far is within the limits.
     pub(crate) fn is_within(&self) -> bool
-        ensures { IsTrue result ↔ ((self.now.count ≤ 20000) × (self.now.bytes ≤ 67108864)) }
+        ensures { IsTrue result ↔ ((self.now.count ≤ base_files) × (self.now.bytes ≤ base_bytes)) }
     {
-        self.count <= MOST_FILES && self.bytes <= MOST_BYTES
+        self.count <= BASE_FILES as u64 && self.bytes <= BASE_BYTES
     }
 
     // Keeps one file more.

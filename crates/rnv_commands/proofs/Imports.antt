@@ -8,6 +8,7 @@ use Rattle.std.proofs.lemmas.Bool.{le-ltb}
 use Rattle.std.proofs.lemmas.List.Sums.{sum_by-cons}
 use Rattle.std.proofs.lemmas.List.Elements.{All-nil, All-from_recursion, recursion_from_All}
 use Rattle.rnv_base.specs.Files.{NamedFile}
+use Rattle.rnv_base.specs.Limits.{base_bytes, base_files}
 use Rattle.rnv_base.specs.Names.{IsPath}
 use Rattle.rnv_checkout.specs.Base.{IsWithin, size_of}
 use Rattle.rnv_repo.specs.Base.{changed, is_changing, is_over, path_of}
@@ -115,9 +116,9 @@ or_false a b c d ab cd = ap (λ t. t || nat_lt c d) (le-ltb a b ab) ∙ le-ltb c
 
 not_over : (files : List MarkedFile) (kept : List NamedFile) → plain files ≡ kept → IsWithin kept → is_over files ≡ false
 not_over files kept same within =
-    let few : length files ≤ 20000 = omega (arith, within.few, ap length same, plain_length files) in
-    let small : sum_by (λ f. length f.bytes) files ≤ 67108864 = omega (arith, within.small, ap size_of same, plain_size files) in
-    or_false 20000 (length files) 67108864 (sum_by (λ (f : MarkedFile). length f.bytes) files) few small
+    let few : length files ≤ base_files = omega (arith, within.few, ap length same, plain_length files) in
+    let small : sum_by (λ f. length f.bytes) files ≤ base_bytes = omega (arith, within.small, ap size_of same, plain_size files) in
+    or_false base_files (length files) base_bytes (sum_by (λ (f : MarkedFile). length f.bytes) files) few small
 
 pub permitted_to : (name : List ℕ) (changes : List PathChange) (o : Option Repo) (kept : List NamedFile) → IsDifference (files_of o) kept changes → changes ≢ [] → IsWithin kept → refusal_to (SetBase name changes) o ≡ None
 permitted_to name changes None kept d ne within = ap (λ t. refused_if t BaseFull None) (not_over (changed 1 changes []) kept (d.makes 1) within)

@@ -2,6 +2,7 @@ ghost use Rattle.std.specs.Prelude.{◌≡◌, ◌≢◌, ◌++◌, [], false, I
 ghost use Rattle.std.specs.List.{AllByRecursion};
 ghost use Rattle.rnv_base.specs.Causes.{FaultsBy};
 ghost use Rattle.rnv_base.specs.Names.{IsRepositoryName};
+ghost use Rattle.rnv_base.specs.Limits.{store_bytes};
 ghost use Rattle.rnv_commands.specs.declared.error.CommandError.TheVariants.{DiskFault as disk_fault, FolderFault as folder_fault};
 ghost use Rattle.rnv_commands.specs.Import.{IsImportRefusal, IsOldOrImport};
 ghost use Rattle.rnv_commands.specs.OnDisk.{LeavesImported, HasImported, IsNotImported, IsNotShown, IsReadingOrImport, IsShownOf, IsStartRefusal, LeavesNoStore};
@@ -53,13 +54,13 @@ fn import_started<D: Disk, O: Folder>(
 ) -> Answer<D>
     requires holds { ⟦<JournalForge<D> as Forge>⟧.holds forge }
     requires opened { ⟦<JournalForge<D> as Forge>⟧.closed forge ≡ false }
-    requires limit { ⟦<JournalForge<D> as Forge>⟧.limit forge ≡ 268435456 }
+    requires limit { ⟦<JournalForge<D> as Forge>⟧.limit forge ≡ store_bytes }
     requires name { IsRepositoryName name.now }
-    ensures any_moment { LeavesWrites 268435456 (⟦<JournalForge<D> as Forge>⟧.past forge) (D.past result.disk) (IsOldOrImport O.tells (O.files folder.old) name.now (⟦<JournalForge<D> as Forge>⟧.writes forge)) }
-    ensures unwritten { IfErr result.text (λ error. error ≢ disk_fault → LeavesWrites 268435456 (⟦<JournalForge<D> as Forge>⟧.past forge) (D.past result.disk) (λ ws. ws ≡ ⟦<JournalForge<D> as Forge>⟧.writes forge)) }
+    ensures any_moment { LeavesWrites store_bytes (⟦<JournalForge<D> as Forge>⟧.past forge) (D.past result.disk) (IsOldOrImport O.tells (O.files folder.old) name.now (⟦<JournalForge<D> as Forge>⟧.writes forge)) }
+    ensures unwritten { IfErr result.text (λ error. error ≢ disk_fault → LeavesWrites store_bytes (⟦<JournalForge<D> as Forge>⟧.past forge) (D.past result.disk) (λ ws. ws ≡ ⟦<JournalForge<D> as Forge>⟧.writes forge)) }
     ensures other { KeepsOne (⟦<JournalForge<D> as Forge>⟧.past forge) (D.past result.disk) }
-    ensures imported { IfOk result.text (LeavesImported O.tells (O.files folder.old) name.now 268435456 (⟦<JournalForge<D> as Forge>⟧.writes forge) (D.past result.disk)) }
-    ensures refused { IfErr result.text (IsImportRefusal O.tells (O.files folder.old) name.now 268435456 (⟦<JournalForge<D> as Forge>⟧.writes forge)) }
+    ensures imported { IfOk result.text (LeavesImported O.tells (O.files folder.old) name.now store_bytes (⟦<JournalForge<D> as Forge>⟧.writes forge) (D.past result.disk)) }
+    ensures refused { IfErr result.text (IsImportRefusal O.tells (O.files folder.old) name.now store_bytes (⟦<JournalForge<D> as Forge>⟧.writes forge)) }
     ensures same { O.tells → (O.files folder.new ≡ O.files folder.old) }
     ensures folder_cause { FaultsBy (O.faults folder.old) (O.faults folder.new) result.text folder_fault }
     ensures disk_cause { FaultsBy (⟦<JournalForge<D> as Forge>⟧.faults forge) (D.faults result.disk) result.text disk_fault }
@@ -84,13 +85,13 @@ pub fn import_on<D: Disk, O: Folder>(
 ) -> Answer<D>
     requires { IsRepositoryName name.now }
     // From a disk that has readings a stop at any moment leaves one of these, or one of these and the one next write.
-    ensures any_moment { HasReadingsNow 268435456 (D.past disk) → ReadsOnly 268435456 (D.past disk) (D.past result.disk) (IsReadingOrImport O.tells (O.files folder.old) name.now 268435456 (D.past disk)) }
-    ensures unwritten { IfErr result.text (λ error. error ≢ disk_fault → KeepsReadings 268435456 (D.past disk) (D.past result.disk)) }
+    ensures any_moment { HasReadingsNow store_bytes (D.past disk) → ReadsOnly store_bytes (D.past disk) (D.past result.disk) (IsReadingOrImport O.tells (O.files folder.old) name.now store_bytes (D.past disk)) }
+    ensures unwritten { IfErr result.text (λ error. error ≢ disk_fault → KeepsReadings store_bytes (D.past disk) (D.past result.disk)) }
     // File `One` is left alone, and what is no store is not written over.
     ensures other { KeepsOne (D.past disk) (D.past result.disk) }
-    ensures left { D.tells → IfErr result.text (LeavesNoStore 268435456 (D.seen disk) (D.seen result.disk) (D.past disk) (D.past result.disk)) }
-    ensures imported { D.tells → IfOk result.text (HasImported O.tells (O.files folder.old) name.now 268435456 (D.seen disk) (D.past result.disk)) }
-    ensures refused { D.tells → IfErr result.text (IsNotImported O.tells (O.files folder.old) name.now 268435456 (D.seen disk)) }
+    ensures left { D.tells → IfErr result.text (LeavesNoStore store_bytes (D.seen disk) (D.seen result.disk) (D.past disk) (D.past result.disk)) }
+    ensures imported { D.tells → IfOk result.text (HasImported O.tells (O.files folder.old) name.now store_bytes (D.seen disk) (D.past result.disk)) }
+    ensures refused { D.tells → IfErr result.text (IsNotImported O.tells (O.files folder.old) name.now store_bytes (D.seen disk)) }
     ensures same { O.tells → (O.files folder.new ≡ O.files folder.old) }
     ensures folder_cause { FaultsBy (O.faults folder.old) (O.faults folder.new) result.text folder_fault }
     ensures disk_cause { FaultsBy (D.faults disk) (D.faults result.disk) result.text disk_fault }
@@ -112,12 +113,12 @@ pub fn import_on<D: Disk, O: Folder>(
 /// no store, with the offset, and then they stay; `UnknownRepo` where the store has none of the name;
 /// `Memory`. Adds no entry, and leaves file `One` alone.
 pub fn show_on<D: Disk>(alloc: Global, disk: D, name: &Text) -> Answer<D>
-    ensures any_moment { KeepsReadings 268435456 (D.past disk) (D.past result.disk) }
+    ensures any_moment { KeepsReadings store_bytes (D.past disk) (D.past result.disk) }
     // File `One` is left alone, and what is no store is not written over.
     ensures other { KeepsOne (D.past disk) (D.past result.disk) }
-    ensures left { D.tells → IfErr result.text (LeavesNoStore 268435456 (D.seen disk) (D.seen result.disk) (D.past disk) (D.past result.disk)) }
-    ensures shown { D.tells → IfOk result.text (IsShownOf name.now 268435456 (D.seen disk)) }
-    ensures refused { D.tells → IfErr result.text (IsNotShown name.now 268435456 (D.seen disk)) }
+    ensures left { D.tells → IfErr result.text (LeavesNoStore store_bytes (D.seen disk) (D.seen result.disk) (D.past disk) (D.past result.disk)) }
+    ensures shown { D.tells → IfOk result.text (IsShownOf name.now store_bytes (D.seen disk)) }
+    ensures refused { D.tells → IfErr result.text (IsNotShown name.now store_bytes (D.seen disk)) }
     ensures never { ¬ IsErrOf result.text folder_fault }
     ensures cause { FaultsBy (D.faults disk) (D.faults result.disk) result.text disk_fault }
 {

@@ -2,6 +2,7 @@
 use Rattle.std.specs.List.{AllByRecursion, AllZip}
 use Rattle.std.specs.Prelude.{filter, ◌≡◌, ◌⊎◌, ◌≤◌, ◌<◌, ℕ, suc, List, [], ◌∷◌, ◌++◌, map, flat_map}
 use Rattle.rnv_base.specs.Files.{NamedFile}
+use Rattle.rnv_base.specs.Limits.{store_bytes}
 use Rattle.rnv_desired.specs.Edits.{IsEditedFile, is_edited}
 use Rattle.rnv_disk.specs.Images.{Image}
 use Rattle.rnv_disk.specs.Stops.{LeftNow, Past}
@@ -102,10 +103,10 @@ IsDone code = (code ≡ 0) ⊎ (code ≡ 10)
 -- done all of them, each once and in order, with what the first run was to leave; and these make no branch and no request twice,
 -- and the files that they put differ from the base only at the chosen spans.
 pub record Compose (files : List NamedFile) (name : List ℕ) (moment : ℕ) (start : List Write) (first : Repo) (g : Given) (calls : ℕ → Call) (n : ℕ) : Type 0 where
-  pub at_every_moment : (i : ℕ) → i ≤ n → ReadsOnly 268435456 (calls i).sight.entry (calls i).sight.exit (SpellsFront start (steps g first) 0)
-  pub never_fewer : (i k least : ℕ) → i ≤ k → k ≤ n → ReadsFront 268435456 (calls i).sight.entry start (steps g first) least
-      → ReadsFront 268435456 (calls k).sight.entry start (steps g first) least
-  pub settled : IsDone (calls n).code → IsAtRest 268435456 (calls n).sight.exit (map spelling (start ++ steps g first))
+  pub at_every_moment : (i : ℕ) → i ≤ n → ReadsOnly store_bytes (calls i).sight.entry (calls i).sight.exit (SpellsFront start (steps g first) 0)
+  pub never_fewer : (i k least : ℕ) → i ≤ k → k ≤ n → ReadsFront store_bytes (calls i).sight.entry start (steps g first) least
+      → ReadsFront store_bytes (calls k).sight.entry start (steps g first) least
+  pub settled : IsDone (calls n).code → IsAtRest store_bytes (calls n).sight.exit (map spelling (start ++ steps g first))
   pub once : IsOnce (steps g first)
   pub outcome : IsDone (calls n).code → LeavesOutcome g name first (start ++ steps g first)
   pub edited : IsDone (calls n).code → ArePutEdited files moment first.files (steps g first)
@@ -114,14 +115,14 @@ pub record Compose (files : List NamedFile) (name : List ℕ) (moment : ℕ) (st
 
 -- a first run, behind writes that stood on a disk
 pub record IsBegunOn (files : List NamedFile) (name : List ℕ) (moment : ℕ) (entry : Past) (start : List Write) (first : Repo) (g : Given) : Type 0 where
-  pub reading : IsReadingNow 268435456 entry (map spelling start)
+  pub reading : IsReadingNow store_bytes entry (map spelling start)
   pub begun : IsBegun files name moment start first g
 
 -- Whatever a stop at this moment leaves has only readings that stood at entry, or each of them is ONE of these and the first writes
 -- of ONE run over it.
 pub data Origin (files : List NamedFile) (name : List ℕ) (moment : ℕ) (entry past : Past) : Type 0 where
-  untouched : EachReadingNow 268435456 (IsReadingNow 268435456 entry) past → Origin files name moment entry past
-  since : (start : List Write) (first : Repo) (g : Given) → IsBegunOn files name moment entry start first g → ReadsFront 268435456 past start (steps g first) 0 → Origin files name moment entry past
+  untouched : EachReadingNow store_bytes (IsReadingNow store_bytes entry) past → Origin files name moment entry past
+  since : (start : List Write) (first : Repo) (g : Given) → IsBegunOn files name moment entry start first g → ReadsFront store_bytes past start (steps g first) 0 → Origin files name moment entry past
 
 -- ONE run over ONE reading that stood at entry is done: the disk is at rest at these writes and all of its own, with what it was to
 -- leave; it makes no branch and no request twice, and the files that it puts differ from the base only at the chosen spans
@@ -130,7 +131,7 @@ pub record IsSettled (files : List NamedFile) (name : List ℕ) (moment : ℕ) (
   pub first : Repo
   pub given : Given
   pub on : IsBegunOn files name moment entry start first given
-  pub at_rest : IsAtRest 268435456 exit (map spelling (start ++ steps given first))
+  pub at_rest : IsAtRest store_bytes exit (map spelling (start ++ steps given first))
   pub outcome : LeavesOutcome given name first (start ++ steps given first)
   pub once : IsOnce (steps given first)
   pub edited : ArePutEdited files moment first.files (steps given first)

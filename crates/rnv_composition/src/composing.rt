@@ -1,5 +1,6 @@
 ghost use Rattle.std.specs.Prelude.{ℕ, List};
 ghost use Rattle.rnv_base.specs.Files.{NamedFile};
+ghost use Rattle.rnv_base.specs.Limits.{store_bytes};
 ghost use Rattle.rnv_repo.specs.declared.repo.Repo.{Repo};
 ghost use Rattle.rnv_repo.specs.declared.write.Write.{Write};
 ghost use Rattle.rnv_journal.specs.Readings.{HasReadingsNow};
@@ -21,10 +22,10 @@ pub fn composition<K: Sink, O: Folder, D: Disk>()
     ensures from_one { (files : List NamedFile) (name : List ℕ) (moment : ℕ) (start : List Write) (first : Repo) (g : Given) (entry exit : ℕ → D) (before after : ℕ → List ℕ) (faults now codes : ℕ → ℕ) (n : ℕ)
         → IsBegun files name moment start first g
         → AreRuns files name moment (λ i. call_of O.tells files D.tells (D.past (entry i)) (D.past (exit i)) (D.seen (entry i)) K.tells (before i) (after i) (faults i) (now i) (codes i)) n
-        → ReadsFront 268435456 (D.past (entry 0)) start (steps g first) 0
+        → ReadsFront store_bytes (D.past (entry 0)) start (steps g first) 0
         → Compose files name moment start first g (λ i. call_of O.tells files D.tells (D.past (entry i)) (D.past (exit i)) (D.seen (entry i)) K.tells (before i) (after i) (faults i) (now i) (codes i)) n }
     ensures from_any { (files : List NamedFile) (name : List ℕ) (moment : ℕ) (entry exit : ℕ → D) (before after : ℕ → List ℕ) (faults now codes : ℕ → ℕ) (n : ℕ)
         → AreRuns files name moment (λ i. call_of O.tells files D.tells (D.past (entry i)) (D.past (exit i)) (D.seen (entry i)) K.tells (before i) (after i) (faults i) (now i) (codes i)) n
-        → HasReadingsNow 268435456 (D.past (entry 0))
+        → HasReadingsNow store_bytes (D.past (entry 0))
         → ComposeFrom files name moment (λ i. call_of O.tells files D.tells (D.past (entry i)) (D.past (exit i)) (D.seen (entry i)) K.tells (before i) (after i) (faults i) (now i) (codes i)) n }
 {}

@@ -1,5 +1,6 @@
 ghost use Rattle.std.specs.Prelude.{◌≡◌, ◌≤◌, ◌↔◌, ℕ, false, true, [], ◌++◌, length, map, None, IfErr, IfOk, IfSome, IsErrOf, OnErr, OnOk};
 ghost use Rattle.std.specs.List.{AllByRecursion};
+ghost use Rattle.rnv_base.specs.Limits.{store_bytes};
 ghost use Rattle.rnv_repo.specs.declared.refusal.Refusal.{Refusal as Cause};
 ghost use Rattle.rnv_repo.specs.Store.{ArePermitted, after};
 ghost use Rattle.rnv_repo.specs.WellFormed.{IsOrderly};
@@ -22,7 +23,7 @@ use crate::start::{Opened, started};
 use crate::store::Store;
 use crate::stored::{CheckError, StoredError, Tried, checked, stored};
 use crate::{Forge, ForgePrepareError, WriteError};
-use rnv_base::{Bytes, List, Text};
+use rnv_base::{Bytes, List, STORE_BYTES, Text};
 use rnv_disk::Disk;
 use rnv_journal::{AppendError, Journal, PrepareError, StartError};
 use rnv_repo::{Repo, Write};
@@ -58,21 +59,21 @@ impl<D: Disk> JournalForge<D> {
     pub fn start(alloc: Global, disk: D) -> Result<JournalForge<D>, StartRefused<D>>
         ensures holds { IfOk result ⟦<JournalForge<D> as Forge>⟧.holds }
         // From a disk that has readings a stop at any moment leaves readings that stood on entry.
-        ensures any_moment { IfOk result (λ forge. KeepsReadings 268435456 (D.past disk) (⟦<JournalForge<D> as Forge>⟧.past forge)) }
-        ensures any_moment_refused { IfErr result (λ refused. KeepsReadings 268435456 (D.past disk) (D.past refused.disk)) }
+        ensures any_moment { IfOk result (λ forge. KeepsReadings store_bytes (D.past disk) (⟦<JournalForge<D> as Forge>⟧.past forge)) }
+        ensures any_moment_refused { IfErr result (λ refused. KeepsReadings store_bytes (D.past disk) (D.past refused.disk)) }
         // File `One` is left alone, and a refusal leaves what stands on the disk.
         ensures other { IfOk result (λ forge. KeepsOne (D.past disk) (⟦<JournalForge<D> as Forge>⟧.past forge)) }
         ensures other_refused { IfErr result (λ refused. KeepsOne (D.past disk) (D.past refused.disk)) }
-        ensures left { D.tells → IfErr result (λ refused. LeavesRefused 268435456 (D.seen disk) (D.seen refused.disk) (D.past disk) (D.past refused.disk) refused.error) }
-        ensures writes { D.tells → IfOk result (λ forge. ReadsAs 268435456 (D.seen disk) (map spelling (⟦<JournalForge<D> as Forge>⟧.writes forge))) }
+        ensures left { D.tells → IfErr result (λ refused. LeavesRefused store_bytes (D.seen disk) (D.seen refused.disk) (D.past disk) (D.past refused.disk) refused.error) }
+        ensures writes { D.tells → IfOk result (λ forge. ReadsAs store_bytes (D.seen disk) (map spelling (⟦<JournalForge<D> as Forge>⟧.writes forge))) }
         ensures none { IfOk result (λ forge. ⟦<JournalForge<D> as Forge>⟧.prepared forge ≡ []) }
-        ensures limit { IfOk result (λ forge. ⟦<JournalForge<D> as Forge>⟧.limit forge ≡ 268435456) }
+        ensures limit { IfOk result (λ forge. ⟦<JournalForge<D> as Forge>⟧.limit forge ≡ store_bytes) }
         ensures opened { IfOk result (λ forge. ⟦<JournalForge<D> as Forge>⟧.closed forge ≡ false) }
-        ensures refused { D.tells → IfErr result (λ refused. IsStoreRefusal 268435456 (D.seen disk) refused.error) }
+        ensures refused { D.tells → IfErr result (λ refused. IsStoreRefusal store_bytes (D.seen disk) refused.error) }
         ensures later { IfOk result (λ forge. D.faults disk ≤ ⟦<JournalForge<D> as Forge>⟧.faults forge) }
         ensures cause { IfErr result (λ refused. RefusedBy (D.faults disk) (D.faults refused.disk) refused.error) }
     {
-        JournalForge::start_within(alloc, disk, 268_435_456)
+        JournalForge::start_within(alloc, disk, STORE_BYTES)
     }
 
     // The same with a limit.

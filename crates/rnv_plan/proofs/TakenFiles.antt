@@ -10,6 +10,7 @@ use Rattle.std.proofs.lemmas.List.Kept.{IsStrictlySortedBy-filter}
 use Rattle.std.proofs.lemmas.Grind.{flat_map-append}
 use Rattle.std.proofs.lemmas.Option.{same_Some}
 use Rattle.std.proofs.lemmas.Slice.Zip.{all_zipped_more}
+use Rattle.rnv_base.specs.Limits.{most_dependencies}
 use Rattle.rnv_base.specs.declared.kinds.ManagerKind.{ManagerKind}
 use Rattle.rnv_base.specs.declared.kinds.ManagerKind.TheVariants.{Npm}
 use Rattle.rnv_repo.specs.Files.{MarkedFile}
@@ -62,7 +63,7 @@ some-taken [] = ([], tt)
 some-taken (f ∷ fs) = some-over f fs (manager_of f.path) refl (some-taken fs)
 
 -- with the dependencies of one file more there are too many
-pub many-from : (files : List MarkedFile) (i : ℕ) (f : MarkedFile) (ts : List TakenFile) (m : ManagerKind) (ds : List Dep) (room : ℕ) → i < length files → f ≡ get_or files i f → AreTaken (take i files) ts → room + length (deps_in ts) ≡ 20000
+pub many-from : (files : List MarkedFile) (i : ℕ) (f : MarkedFile) (ts : List TakenFile) (m : ManagerKind) (ds : List Dep) (room : ℕ) → i < length files → f ≡ get_or files i f → AreTaken (take i files) ts → room + length (deps_in ts) ≡ most_dependencies
     → manager_of f.path ≡ Some m → AreDeps m f ds → room < length ds → HaveMany files
 many-from files i f ts m ds room within at so_far count manager deps more =
     let t : TakenFile = record { path = f.path; manager = m; deps = ds } in

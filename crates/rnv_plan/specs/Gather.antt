@@ -2,6 +2,7 @@
 use Rattle.std.specs.Prelude.{◌≡◌, ◌≤◌, ℕ, List, length, map, Bool, true, false, Option, Some, None}
 use Rattle.std.specs.List.{All, AllZip, Contains}
 use Rattle.rnv_base.specs.Files.{NamedFile}
+use Rattle.rnv_base.specs.Limits.{most_dependencies}
 use Rattle.rnv_repo.specs.Files.{MarkedFile}
 use Rattle.rnv_repo.specs.Named.{IsRisingBy}
 use Rattle.rnv_release.specs.declared.release.Release.{Release}
@@ -21,7 +22,7 @@ use Rattle.rnv_plan.specs.Taken.{AreDeps, AreTaken, deps_in, readable_in, is_con
 -- the files that managers take, with at most 20,000 dependencies together
 pub record AreFew (base : List MarkedFile) (taken : List TakenFile) : Type 0 where
   pub read : AreTaken base taken
-  pub few : length (deps_in taken) ≤ 20000
+  pub few : length (deps_in taken) ≤ most_dependencies
 
 -- nothing of the base is not built yet
 pub record AreBuilt (base : List MarkedFile) (taken : List TakenFile) : Type 0 where

@@ -1,6 +1,7 @@
 -- What an operator's folder gives for a repository.
 use Rattle.std.specs.Prelude.{◌≡◌, ◌<◌, ◌≤◌, ℕ, List, length, map, codes}
 use Rattle.rnv_base.specs.Files.{NamedFile}
+use Rattle.rnv_base.specs.Limits.{most_items}
 use Rattle.rnv_repo.specs.Files.{MarkedFile}
 use Rattle.rnv_checkout.specs.Base.{folder_of, IsBase, IsWithin}
 use Rattle.rnv_checkout.specs.Refusal.{HasWrong}
@@ -44,14 +45,14 @@ pub data IsFolderRefusal (repo : List ℕ) (files : List NamedFile) (error : Run
 -- these are the items of the updates, at most 5,000
 pub record AreFewGroups (updates : List Update) (items : List Group) : Type 0 where
   pub are_items : AreGroups updates items
-  pub few : length items ≤ 5000
+  pub few : length items ≤ most_items
 
 -- the items of the updates are more than 5,000
 pub record HaveManyGroups (updates : List Update) (error : RunError) : Type 0 where
   pub items : List Group
   pub are_items : AreGroups updates items
-  pub many : 5000 < length items
-  pub same : error ≡ Limit (codes "items") 5000
+  pub many : most_items < length items
+  pub same : error ≡ Limit (codes "items") most_items
 
 -- the items that the folder gives for the repository at a moment
 pub record IsPlanned (repo : List ℕ) (moment : ℕ) (files : List NamedFile) (items : List Group) : Type 0 where

@@ -5,6 +5,7 @@ use Rattle.std.specs.Ordering.{nat_cmp}
 use Rattle.std.specs.Cmp.Lexicographic.{slice_cmp}
 use Rattle.std.specs.declared.cmp.Ordering.TheVariants.{Less}
 use Rattle.rnv_base.specs.Files.{NamedFile}
+use Rattle.rnv_base.specs.Limits.{document_bytes, most_dependencies, most_releases}
 use Rattle.rnv_repo.specs.Files.{MarkedFile}
 use Rattle.rnv_release.specs.Npm.{npm_path}
 use Rattle.rnv_release.specs.Index.{Index, absent, listed, too_long, bad, too_many}
@@ -29,7 +30,7 @@ IfTold P (IndexRefused file line) = P (IndexRefused file line)
 pub record HaveMany (base : List MarkedFile) : Type 0 where
   pub taken : List TakenFile
   pub read : AreTaken base taken
-  pub many : 20000 < length (deps_in taken)
+  pub many : most_dependencies < length (deps_in taken)
 
 -- the first path by its bytes whose file is not built yet
 pub record IsFirstUnbuilt (taken : List TakenFile) (path : List ℕ) : Type 0 where
@@ -47,9 +48,9 @@ pub record IsFirstUnsound (files : List NamedFile) (deps : List Dep) (name : Lis
 abbrev pub IsIndexRefusal : List ℕ → Index → RunError → Type 0
 IsIndexRefusal name absent error = ⊥
 IsIndexRefusal name (listed releases) error = ⊥
-IsIndexRefusal name too_long error = error ≡ Limit (codes "document") 67108864
+IsIndexRefusal name too_long error = error ≡ Limit (codes "document") document_bytes
 IsIndexRefusal name (bad line) error = error ≡ IndexRefused (npm_path name) line
-IsIndexRefusal name too_many error = error ≡ Limit (codes "releases") 50000
+IsIndexRefusal name too_many error = error ≡ Limit (codes "releases") most_releases
 
 -- the first document by its package's name that is refused, and why
 pub record HasUnsound (files : List NamedFile) (deps : List Dep) (error : RunError) : Type 0 where
@@ -59,7 +60,7 @@ pub record HasUnsound (files : List NamedFile) (deps : List Dep) (error : RunErr
 
 -- the causes in their order, each where none before it holds
 pub data IsRefusal (files : List NamedFile) (base : List MarkedFile) (error : RunError) : Type 0 where
-  many_dependencies : HaveMany base → error ≡ Limit (codes "dependencies") 20000 → IsRefusal files base error
+  many_dependencies : HaveMany base → error ≡ Limit (codes "dependencies") most_dependencies → IsRefusal files base error
   configured : (taken : List TakenFile) → AreFew base taken → is_configured base ≡ true → error ≡ NotBuilt (codes "renovate.json") → IsRefusal files base error
   unbuilt : (taken : List TakenFile) → AreFew base taken → is_configured base ≡ false → (path : List ℕ) → IsFirstUnbuilt taken path → error ≡ NotBuilt path → IsRefusal files base error
   refused_document : (taken : List TakenFile) → AreBuilt base taken → HasUnsound files (readable_in taken) error → IsRefusal files base error

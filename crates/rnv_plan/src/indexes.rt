@@ -14,7 +14,7 @@ ghost use Rattle.rnv_plan.specs.Packages.{AreNames, HasUnsoundName};
 use crate::RunError;
 use crate::error::limit;
 use crate::taken::TakenFile;
-use rnv_base::{Folder, List, Share, Text};
+use rnv_base::{DOCUMENT_BYTES, Folder, List, Share, Text};
 use rnv_pick::{Dep, is_range};
 use rnv_release::{Datasource, NpmIndex, ReadIndexError, Release, read_releases};
 use std::alloc::{AllocError, Global};
@@ -75,7 +75,7 @@ fn read_index<O: Folder>(
         Ok(found) => Ok(found),
         Err(ReadIndexError::FolderFault) => Err(RunError::FolderFault),
         Err(ReadIndexError::Memory) => Err(RunError::Memory),
-        Err(ReadIndexError::TooLong) => Err(limit(alloc, "document", 67_108_864)),
+        Err(ReadIndexError::TooLong) => Err(limit(alloc, "document", DOCUMENT_BYTES)),
         Err(ReadIndexError::BadIndex { line }) => Err(refused(alloc, name, line)),
         Err(ReadIndexError::TooManyReleases { number }) => Err(limit(alloc, "releases", number)),
     }

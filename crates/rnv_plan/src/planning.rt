@@ -12,12 +12,9 @@ ghost use Rattle.rnv_plan.specs.Plan.{AreFewGroups, HaveManyGroups, IsPlanned, I
 use crate::error::limit;
 use crate::kept::all_named;
 use crate::{Group, KeptFile, PickedFile, RunError, gather_folder, items, kept_files};
-use rnv_base::{Folder, List};
+use rnv_base::{Folder, List, MOST_ITEMS};
 use std::alloc::{AllocError, Global};
 use std::convert::AsSlice;
-
-// As many items has a plan.
-const MOST: usize = 5_000;
 
 // The items of the updates that stay. Only memory can fail.
 fn kept_items(alloc: Global, kept: List<KeptFile>) -> Result<List<Group>, AllocError>
@@ -39,8 +36,8 @@ pub fn few_items(alloc: Global, kept: List<KeptFile>) -> Result<List<Group>, Run
     let Ok(items) = kept_items(alloc, kept) else {
         return Err(RunError::Memory);
     };
-    if items.len() > MOST {
-        return Err(limit(alloc, "items", 5_000));
+    if items.len() > MOST_ITEMS {
+        return Err(limit(alloc, "items", MOST_ITEMS as u64));
     }
     Ok(items)
 }

@@ -1,5 +1,6 @@
 ghost use Rattle.std.specs.Prelude.{◌≡◌, ◌≢◌, ◌≤◌, ◌<◌, List as Items, codes, map, length, IfOk, IfErr};
 ghost use Rattle.std.specs.Str.{IsUtf8};
+ghost use Rattle.rnv_base.specs.Limits.{most_dependencies};
 ghost use Rattle.rnv_manager.specs.Finds.{Find, view, views};
 ghost use Rattle.rnv_plan.specs.Taken.{AreDeps, AreFinds, AreTaken, deps_in, dep_of};
 ghost use Rattle.rnv_plan.specs.Gather.{AreFew};
@@ -8,16 +9,13 @@ ghost use Rattle.rnv_plan.specs.Refusal.{IfTold, HaveMany};
 use crate::RunError;
 use crate::error::limit;
 use crate::managers::manager_of;
-use rnv_base::{List, ManagerKind, Share, Text};
+use rnv_base::{List, MOST_DEPENDENCIES, ManagerKind, Share, Text};
 use rnv_manager::{ExtractError, Found, Manager};
 use rnv_package_json::NpmManager;
 use rnv_pick::Dep;
 use rnv_repo::FileAt;
 use std::alloc::{AllocError, Global};
 use std::convert::{AsSlice, AsStr};
-
-// As many dependencies has a base.
-const MOST: usize = 20_000;
 
 // A file with the manager that takes it and its dependencies, in the order in which they stand there.
 #[derive(Drop)]
@@ -88,7 +86,7 @@ fn deps(alloc: Global, path: &str, found: &[Found]) -> Result<List<Dep>, AllocEr
 fn npm_deps(alloc: Global, file: &FileAt, room: usize) -> Result<List<Dep>, RunError>
     ensures deps { IfOk result (AreDeps ManagerKind.Npm file.now) }
     ensures few { IfOk result (λ deps. length deps ≤ room) }
-    ensures many { IfErr result (IfTold (λ error. (deps : Items Dep) × AreDeps ManagerKind.Npm file.now deps × (room < length deps) × (error ≡ RunError.Limit (codes "dependencies") 20000))) }
+    ensures many { IfErr result (IfTold (λ error. (deps : Items Dep) × AreDeps ManagerKind.Npm file.now deps × (room < length deps) × (error ≡ RunError.Limit (codes "dependencies") most_dependencies))) }
     ensures fault { result ≢ Err RunError.FolderFault }
     ensures disk { result ≢ Err RunError.DiskFault }
     ensures unknown { result ≢ Err RunError.UnknownRepo }
@@ -96,7 +94,7 @@ fn npm_deps(alloc: Global, file: &FileAt, room: usize) -> Result<List<Dep>, RunE
     let npm = NpmManager;
     let found = found(alloc, &npm, file.bytes.as_slice())?;
     if found.len() > room {
-        return Err(limit(alloc, "dependencies", 20_000));
+        return Err(limit(alloc, "dependencies", MOST_DEPENDENCIES as u64));
     }
     Ok(deps(alloc, file.path.as_str(), found.as_slice())?)
 }
@@ -110,7 +108,7 @@ fn file_deps(
 ) -> Result<List<Dep>, RunError>
     ensures deps { IfOk result (AreDeps manager file.now) }
     ensures few { IfOk result (λ deps. length deps ≤ room) }
-    ensures many { IfErr result (IfTold (λ error. (deps : Items Dep) × AreDeps manager file.now deps × (room < length deps) × (error ≡ RunError.Limit (codes "dependencies") 20000))) }
+    ensures many { IfErr result (IfTold (λ error. (deps : Items Dep) × AreDeps manager file.now deps × (room < length deps) × (error ≡ RunError.Limit (codes "dependencies") most_dependencies))) }
     ensures fault { result ≢ Err RunError.FolderFault }
     ensures disk { result ≢ Err RunError.DiskFault }
     ensures unknown { result ≢ Err RunError.UnknownRepo }
@@ -127,13 +125,13 @@ fn file_deps(
 // where these are more than 20,000 together.
 pub(crate) fn taken(alloc: Global, files: &[FileAt]) -> Result<List<TakenFile>, RunError>
     ensures few { IfOk result (AreFew files.now) }
-    ensures many { IfErr result (IfTold (λ error. HaveMany files.now × (error ≡ RunError.Limit (codes "dependencies") 20000))) }
+    ensures many { IfErr result (IfTold (λ error. HaveMany files.now × (error ≡ RunError.Limit (codes "dependencies") most_dependencies))) }
     ensures fault { result ≢ Err RunError.FolderFault }
     ensures disk { result ≢ Err RunError.DiskFault }
     ensures unknown { result ≢ Err RunError.UnknownRepo }
 {
     let mut taken = List::empty(alloc);
-    let mut room = MOST;
+    let mut room = MOST_DEPENDENCIES;
     for file in files {
         if let Some(manager) = manager_of(file.path.as_str()) {
             let deps = file_deps(alloc, manager, file, room)?;

@@ -297,7 +297,10 @@ const PLANS: [(&[File], &str); 15] = [
     (&[BAD_A, BAD_B, ("repos/acme/web/package.json", "{}")], ""),
     (&[BAD_B, ("repos/acme/web/package.json", NO_RANGE)], ""),
     // A range stays where the newest release is in it, and goes to the next first number.
-    (&[LODASH, ("repos/acme/web/package.json", CARET)], "renovate/lodash-5.x package.json ^4.17.0 ^5.0.0 "),
+    (
+        &[LODASH, ("repos/acme/web/package.json", CARET)],
+        "renovate/lodash-5.x package.json ^4.17.0 ^5.0.0 ",
+    ),
     (&[("repos/acme/web/package.json", CARET)], ""),
     (&[], "unknown"),
 ];

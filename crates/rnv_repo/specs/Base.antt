@@ -2,6 +2,7 @@
 use Rattle.std.specs.Prelude.{ℕ, nat_lt, Bool, true, false, not, ◌||◌, if◌then◌else◌, List, [], ◌∷◌, length, sum_by, Option, None, Some}
 use Rattle.std.specs.List.{list_any}
 use Rattle.std.specs.Str.{bytes_eq}
+use Rattle.rnv_base.specs.Limits.{base_bytes, base_files}
 use Rattle.rnv_repo.specs.Files.{MarkedFile, PathChange}
 use Rattle.rnv_repo.specs.Named.{at, put, without}
 
@@ -37,4 +38,4 @@ is_changing cs files = list_any (λ c. differs c.bytes (at path_of c.path files)
 
 -- more than 20,000 files, or more than 67,108,864 bytes
 abbrev pub is_over : List MarkedFile → Bool
-is_over files = nat_lt 20000 (length files) || nat_lt 67108864 (sum_by (λ f. length f.bytes) files)
+is_over files = nat_lt base_files (length files) || nat_lt base_bytes (sum_by (λ f. length f.bytes) files)

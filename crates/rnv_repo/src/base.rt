@@ -9,7 +9,7 @@ ghost use Rattle.rnv_repo.specs.Merging.{change_path, left_at, set_by, sets_some
 ghost use Rattle.rnv_repo.specs.Named.{IsRisingBy};
 
 use crate::{FileAt, FileChange};
-use rnv_base::{List, Share, Text};
+use rnv_base::{BASE_BYTES, BASE_FILES, List, Share, Text};
 use std::alloc::{AllocError, Global};
 use std::convert::AsSlice;
 
@@ -154,14 +154,14 @@ pub(crate) fn merged(
     Ok((out, changing))
 }
 
-// More than 20,000 files, or more than 67,108,864 bytes.
+// More files or more bytes than a base may have.
 pub(crate) fn is_over(files: &[FileAt]) -> bool
     ensures { result ≡ is_over files.now }
 {
-    if files.len() > 20_000 {
+    if files.len() > BASE_FILES {
         return true;
     }
-    let mut room = 67_108_864;
+    let mut room = BASE_BYTES as usize;
     for file in files {
         let length = file.bytes.as_slice().len();
         if length > room {

@@ -3,6 +3,7 @@ use Rattle.std.proofs.Common.{◌⊎◌, inl, inr, IsErrOf, Option, None, ◌≡
 use Rattle.std.specs.List.{AllByRecursion}
 use Rattle.std.proofs.lemmas.List.{append_cancel_left, drop_at, length-append, length-take, take_at, take-append-drop}
 use Rattle.rnv_base.specs.Files.{NamedFile}
+use Rattle.rnv_base.specs.Limits.{store_bytes}
 use Rattle.rnv_commands.specs.OnDisk.{IsStored}
 use Rattle.rnv_commands.proofs.Stops.{keeps_still}
 use Rattle.rnv_disk.specs.Images.{Image}
@@ -185,36 +186,36 @@ ended_left r answer is limit old new before now = subst (λ (a : Result (List �
     by (Err e) = tt
 
 module _ (folder_tells disk_tells : Type 0) (files : List NamedFile) (image : Image) (entry mid exit : Past) (name : List ℕ) (moment : ℕ) (old : List Write) (r : Result (List ℕ) RunError)
-    (keeps : KeepsReadings 268435456 entry mid) (reading : disk_tells → IsReadingNow 268435456 entry (map spelling old)) (stored : disk_tells → IsStored 268435456 image old)
-    (told : (t : ℕ) (c : Image) → exit.left t c → disk_tells) (fits : AllByRecursion IsWellFormed old) (any : BeginsOrStays 268435456 (IsRun folder_tells files name moment) mid exit old)
+    (keeps : KeepsReadings store_bytes entry mid) (reading : disk_tells → IsReadingNow store_bytes entry (map spelling old)) (stored : disk_tells → IsStored store_bytes image old)
+    (told : (t : ℕ) (c : Image) → exit.left t c → disk_tells) (fits : AllByRecursion IsWellFormed old) (any : BeginsOrStays store_bytes (IsRun folder_tells files name moment) mid exit old)
     (unknown : IfErr r (IsOfRepo name old))
-    (unwritten : IfErr r (λ error. error ≢ DiskFault → LeavesWrites 268435456 mid exit (λ ws. ws ≡ old))) (ran : IfOk r (LeavesRun folder_tells files name moment 268435456 old exit))
-    (refused : folder_tells → IfErr r (IfCaused (IsRepoRefusal files name moment 268435456 old)))
+    (unwritten : IfErr r (λ error. error ≢ DiskFault → LeavesWrites store_bytes mid exit (λ ws. ws ≡ old))) (ran : IfOk r (LeavesRun folder_tells files name moment store_bytes old exit))
+    (refused : folder_tells → IfErr r (IfCaused (IsRepoRefusal files name moment store_bytes old)))
     (resumed : folder_tells → (start : List Write) (first : Repo) (g : Given) (us vs : List Write) → IsGiven folder_tells files first.files moment g → IsStoppedRun g name start first us vs old
-    → IfOk r (IsFinished 268435456 exit name moment start first g old))
+    → IfOk r (IsFinished store_bytes exit name moment start first g old))
     (resumed_any : folder_tells → (start : List Write) (first : Repo) (g : Given) (us vs : List Write) → IsGiven folder_tells files first.files moment g → IsStoppedRun g name start first us vs old
-    → LeavesWrites 268435456 mid exit (IsFront start (us ++ vs) (length us))) where
+    → LeavesWrites store_bytes mid exit (IsFront start (us ++ vs) (length us))) where
   abbrev over : List Write → List Write → Type 0
   over = IsRun folder_tells files name moment
 
   wished : (start : List Write) (first : Repo) (g : Given) → IsBegun files name moment start first g → IsGiven folder_tells files first.files moment g
   wished start first g begun = given_under (Unit {0}) folder_tells files first.files moment g (λ t. tt) begun.is_given
 
-  here : (start : List Write) (first : Repo) (g : Given) (least : ℕ) → disk_tells → ReadsFront 268435456 entry start (steps g first) least → IsFront start (steps g first) least old
-  here start first g least d reads = found_front 268435456 entry start (steps g first) least reads old fits (reading d)
+  here : (start : List Write) (first : Repo) (g : Given) (least : ℕ) → disk_tells → ReadsFront store_bytes entry start (steps g first) least → IsFront start (steps g first) least old
+  here start first g least d reads = found_front store_bytes entry start (steps g first) least reads old fits (reading d)
 
-  kept_unwritten : (q : Result (List ℕ) RunError) → IfErr q (λ error. error ≢ DiskFault → LeavesWrites 268435456 mid exit (λ ws. ws ≡ old)) → IfErr (ended q) (λ refusal. refusal ≢ Ended DiskFault → KeepsReadings 268435456 entry exit)
+  kept_unwritten : (q : Result (List ℕ) RunError) → IfErr q (λ error. error ≢ DiskFault → LeavesWrites store_bytes mid exit (λ ws. ws ≡ old)) → IfErr (ended q) (λ refusal. refusal ≢ Ended DiskFault → KeepsReadings store_bytes entry exit)
   kept_unwritten (Ok text) u = tt
-  kept_unwritten (Err e) u = λ ne. keeps_still 268435456 disk_tells entry mid exit old keeps reading told (u (λ same. ne (ap Ended same)))
+  kept_unwritten (Err e) u = λ ne. keeps_still store_bytes disk_tells entry mid exit old keeps reading told (u (λ same. ne (ap Ended same)))
 
   pub runs_of : Runs folder_tells files disk_tells image entry exit name moment (ended r)
   runs_of = record {
-    begins = told_call 268435456 over entry mid exit disk_tells old keeps reading told any;
+    begins = told_call store_bytes over entry mid exit disk_tells old keeps reading told any;
     stops = λ start first g least t begun reads.
         let W = steps g first in
-        then_front 268435456 entry start W least reads mid exit keeps (told_run 268435456 disk_tells mid exit (SpellsFront start W least) told (begins_later 268435456 over mid exit old any) (λ d.
+        then_front store_bytes entry start W least reads mid exit keeps (told_run store_bytes disk_tells mid exit (SpellsFront start W least) told (begins_later store_bytes over mid exit old any) (λ d.
         let f = here start first g least d reads in
-        front_weaker 268435456 mid exit start W least f.count f.at_least f.at_most
+        front_weaker store_bytes mid exit start W least f.count f.at_least f.at_most
         (resumed_any t start first g (take f.count W) (drop f.count W) (wished start first g begun) (stopped_at name start first g least old begun.there f))));
     finished = λ start first g least t d begun reads.
         let W = steps g first in
@@ -222,8 +223,8 @@ module _ (folder_tells disk_tells : Type 0) (files : List NamedFile) (image : Im
         ok_ended r _ _ (λ text h. record { old = old; stored = stored d; reading = reading d; finished = h }) (resumed t start first g (take f.count W) (drop f.count W) (wished start first g begun) (stopped_at name start first g least old begun.there f));
     unwritten = kept_unwritten r unwritten;
     done = λ d. ok_ended r _ _ (λ text leaves. record { old = old; stored = stored d; reading = reading d; leaves = leaves }) ran;
-    refused = λ t d. refused_ended r files name moment 268435456 image old (stored d) (refused t);
-    image_told = λ d. ended_image r name 268435456 image old (stored d) unknown;
+    refused = λ t d. refused_ended r files name moment store_bytes image old (stored d) (refused t);
+    image_told = λ d. ended_image r name store_bytes image old (stored d) unknown;
   }
 
 -- the same of an answer that is this one
@@ -247,24 +248,24 @@ start_left limit old new before now start_fault refusal is left = subst (LeavesN
 start_left limit old new before now (start_damaged offset) refusal is left = subst (LeavesNoStore limit old new before now) (sym is) left
 start_left limit old new before now start_memory refusal is left = subst (LeavesNoStore limit old new before now) (sym is) tt
 
-pub runs_refused : (folder_tells : Type 0) (files : List NamedFile) (disk_tells : Type 0) (image : Image) (entry exit : Past) (name : List ℕ) (moment : ℕ) (error : StartError) (refusal : RunRefusal) → KeepsReadings 268435456 entry exit
-    → IsStartRefusal error refusal → (disk_tells → IsStoreRefusal 268435456 image error) → Runs folder_tells files disk_tells image entry exit name moment (Err refusal)
+pub runs_refused : (folder_tells : Type 0) (files : List NamedFile) (disk_tells : Type 0) (image : Image) (entry exit : Past) (name : List ℕ) (moment : ℕ) (error : StartError) (refusal : RunRefusal) → KeepsReadings store_bytes entry exit
+    → IsStartRefusal error refusal → (disk_tells → IsStoreRefusal store_bytes image error) → Runs folder_tells files disk_tells image entry exit name moment (Err refusal)
 runs_refused folder_tells files disk_tells image entry exit name moment error refusal keeps is r = record {
-  begins = keeps_begins 268435456 (IsRun folder_tells files name moment) entry exit keeps;
-  stops = λ start first g least t begun reads. kept_front 268435456 entry start (steps g first) least reads exit keeps;
+  begins = keeps_begins store_bytes (IsRun folder_tells files name moment) entry exit keeps;
+  stops = λ start first g least t begun reads. kept_front store_bytes entry start (steps g first) least reads exit keeps;
   finished = λ start first g least t d begun reads. tt;
   unwritten = λ ne. keeps;
   done = λ d. tt;
-  refused = λ t d. start_refused files name moment 268435456 image error refusal is (r d);
-  image_told = λ d. start_image name 268435456 image error refusal is (r d);
+  refused = λ t d. start_refused files name moment store_bytes image error refusal is (r d);
+  image_told = λ d. start_image name store_bytes image error refusal is (r d);
 }
 
 -- nothing was done, for want of memory
-pub runs_none : (folder_tells : Type 0) (files : List NamedFile) (disk_tells : Type 0) (image : Image) (entry exit : Past) (name : List ℕ) (moment : ℕ) → KeepsReadings 268435456 entry exit
+pub runs_none : (folder_tells : Type 0) (files : List NamedFile) (disk_tells : Type 0) (image : Image) (entry exit : Past) (name : List ℕ) (moment : ℕ) → KeepsReadings store_bytes entry exit
     → Runs folder_tells files disk_tells image entry exit name moment (Err (Ended Memory))
 runs_none folder_tells files disk_tells image entry exit name moment keeps = record {
-  begins = keeps_begins 268435456 (IsRun folder_tells files name moment) entry exit keeps;
-  stops = λ start first g least t begun reads. kept_front 268435456 entry start (steps g first) least reads exit keeps;
+  begins = keeps_begins store_bytes (IsRun folder_tells files name moment) entry exit keeps;
+  stops = λ start first g least t begun reads. kept_front store_bytes entry start (steps g first) least reads exit keeps;
   finished = λ start first g least t d begun reads. tt;
   unwritten = λ ne. keeps;
   done = λ t. tt;

@@ -1,6 +1,7 @@
 -- What a run makes of the store on a disk.
 use Rattle.std.specs.Prelude.{◌≡◌, ◌≢◌, ◌≤◌, ℕ, List, [], ◌++◌, length, take, drop, map, Some, Result, Ok, Err, IfErr, IfOk}
 use Rattle.rnv_base.specs.Files.{NamedFile}
+use Rattle.rnv_base.specs.Limits.{store_bytes}
 use Rattle.rnv_commands.specs.OnDisk.{IsDamaged, IsStored, IsUnknownIn}
 use Rattle.rnv_disk.specs.Images.{Image}
 use Rattle.rnv_disk.specs.Stops.{Past}
@@ -125,14 +126,14 @@ pub record HasFinished (limit : ℕ) (image : Image) (entry exit : Past) (name :
 -- of the disk has written anything. What is no store, or lacks the repository, is told of the image alone, and every other cause but want
 -- of memory and a fault of the disk comes only behind the start and the look-up of the repository.
 pub record Runs (folder_tells : Type 0) (files : List NamedFile) (disk_tells : Type 0) (image : Image) (entry exit : Past) (name : List ℕ) (moment : ℕ) (answer : Result (List ℕ) RunRefusal) : Type 0 where
-  pub begins : LeavesOf 268435456 (IsRun folder_tells files name moment) entry exit
+  pub begins : LeavesOf store_bytes (IsRun folder_tells files name moment) entry exit
   pub stops : (start : List Write) (first : Repo) (g : Given) (least : ℕ) → folder_tells → IsBegun files name moment start first g
-      → ReadsFront 268435456 entry start (steps g first) least
-      → ReadsOnly 268435456 entry exit (SpellsFront start (steps g first) least)
+      → ReadsFront store_bytes entry start (steps g first) least
+      → ReadsOnly store_bytes entry exit (SpellsFront start (steps g first) least)
   pub finished : (start : List Write) (first : Repo) (g : Given) (least : ℕ) → folder_tells → disk_tells → IsBegun files name moment start first g
-      → ReadsFront 268435456 entry start (steps g first) least
-      → IfOk answer (HasFinished 268435456 image entry exit name moment start first g)
-  pub unwritten : IfErr answer (λ refusal. refusal ≢ Ended DiskFault → KeepsReadings 268435456 entry exit)
-  pub done : disk_tells → IfOk answer (HasRun folder_tells files name moment 268435456 image entry exit)
-  pub refused : folder_tells → disk_tells → IfErr answer (IsNotRun files name moment 268435456 image)
-  pub image_told : disk_tells → IfErr answer (IsOfImage name 268435456 image)
+      → ReadsFront store_bytes entry start (steps g first) least
+      → IfOk answer (HasFinished store_bytes image entry exit name moment start first g)
+  pub unwritten : IfErr answer (λ refusal. refusal ≢ Ended DiskFault → KeepsReadings store_bytes entry exit)
+  pub done : disk_tells → IfOk answer (HasRun folder_tells files name moment store_bytes image entry exit)
+  pub refused : folder_tells → disk_tells → IfErr answer (IsNotRun files name moment store_bytes image)
+  pub image_told : disk_tells → IfErr answer (IsOfImage name store_bytes image)

@@ -2,6 +2,7 @@ ghost use Rattle.std.specs.Prelude.{◌≡◌, ◌≢◌, ◌++◌, List as Item
 ghost use Rattle.std.specs.List.{AllByRecursion};
 ghost use Rattle.rnv_base.specs.Causes.{FaultsBy};
 ghost use Rattle.rnv_base.specs.Moment.{IsMoment};
+ghost use Rattle.rnv_base.specs.Limits.{store_bytes};
 ghost use Rattle.rnv_repo.specs.Store.{ArePermitted};
 ghost use Rattle.rnv_repo.specs.WellFormed.{IsWellFormed};
 ghost use Rattle.rnv_repo.specs.declared.repo.Repo.{Repo as Record};
@@ -91,23 +92,23 @@ fn run_started<D: Disk, O: Folder>(
 ) -> Ran<D>
     requires holds { ⟦<JournalForge<D> as Forge>⟧.holds forge }
     requires opened { ⟦<JournalForge<D> as Forge>⟧.closed forge ≡ false }
-    requires limit { ⟦<JournalForge<D> as Forge>⟧.limit forge ≡ 268435456 }
+    requires limit { ⟦<JournalForge<D> as Forge>⟧.limit forge ≡ store_bytes }
     requires moment { IsMoment moment }
-    ensures any_moment { BeginsOrStays 268435456 (IsRun O.tells (O.files folder.old) name.now moment) (⟦<JournalForge<D> as Forge>⟧.past forge) (D.past result.disk) (⟦<JournalForge<D> as Forge>⟧.writes forge) }
-    ensures unwritten { IfErr result.text (λ error. error ≢ RunError.DiskFault → LeavesWrites 268435456 (⟦<JournalForge<D> as Forge>⟧.past forge) (D.past result.disk) (λ ws. ws ≡ ⟦<JournalForge<D> as Forge>⟧.writes forge)) }
+    ensures any_moment { BeginsOrStays store_bytes (IsRun O.tells (O.files folder.old) name.now moment) (⟦<JournalForge<D> as Forge>⟧.past forge) (D.past result.disk) (⟦<JournalForge<D> as Forge>⟧.writes forge) }
+    ensures unwritten { IfErr result.text (λ error. error ≢ RunError.DiskFault → LeavesWrites store_bytes (⟦<JournalForge<D> as Forge>⟧.past forge) (D.past result.disk) (λ ws. ws ≡ ⟦<JournalForge<D> as Forge>⟧.writes forge)) }
     ensures other { KeepsOne (⟦<JournalForge<D> as Forge>⟧.past forge) (D.past result.disk) }
-    ensures ran { IfOk result.text (LeavesRun O.tells (O.files folder.old) name.now moment 268435456 (⟦<JournalForge<D> as Forge>⟧.writes forge) (D.past result.disk)) }
+    ensures ran { IfOk result.text (LeavesRun O.tells (O.files folder.old) name.now moment store_bytes (⟦<JournalForge<D> as Forge>⟧.writes forge) (D.past result.disk)) }
     ensures known { IfErr result.text (IsOfRepo name.now (⟦<JournalForge<D> as Forge>⟧.writes forge)) }
-    ensures refused { O.tells → IfErr result.text (IfCaused (IsRepoRefusal (O.files folder.old) name.now moment 268435456 (⟦<JournalForge<D> as Forge>⟧.writes forge))) }
+    ensures refused { O.tells → IfErr result.text (IfCaused (IsRepoRefusal (O.files folder.old) name.now moment store_bytes (⟦<JournalForge<D> as Forge>⟧.writes forge))) }
     ensures same { O.tells → (O.files folder.new ≡ O.files folder.old) }
     ensures folder_cause { FaultsBy (O.faults folder.old) (O.faults folder.new) result.text RunError.FolderFault }
     ensures disk_cause { FaultsBy (⟦<JournalForge<D> as Forge>⟧.faults forge) (D.faults result.disk) result.text RunError.DiskFault }
     ensures resumed { O.tells → (start : Items Change) (first : Record) (g : Given) (us vs : Items Change) → IsGiven O.tells (O.files folder.old) first.files moment g
         → IsStoppedRun g name.now start first us vs (⟦<JournalForge<D> as Forge>⟧.writes forge)
-        → IfOk result.text (IsFinished 268435456 (D.past result.disk) name.now moment start first g (⟦<JournalForge<D> as Forge>⟧.writes forge)) }
+        → IfOk result.text (IsFinished store_bytes (D.past result.disk) name.now moment start first g (⟦<JournalForge<D> as Forge>⟧.writes forge)) }
     ensures resumed_any_moment { O.tells → (start : Items Change) (first : Record) (g : Given) (us vs : Items Change) → IsGiven O.tells (O.files folder.old) first.files moment g
         → IsStoppedRun g name.now start first us vs (⟦<JournalForge<D> as Forge>⟧.writes forge)
-        → LeavesWrites 268435456 (⟦<JournalForge<D> as Forge>⟧.past forge) (D.past result.disk) (IsFront start (us ++ vs) (length us)) }
+        → LeavesWrites store_bytes (⟦<JournalForge<D> as Forge>⟧.past forge) (D.past result.disk) (IsFront start (us ++ vs) (length us)) }
 {
     let mut forge = forge;
     let text = report_run(alloc, &mut forge, folder, name, moment);
@@ -135,7 +136,7 @@ pub fn run_on<D: Disk, O: Folder>(
     requires { IsMoment moment }
     // File `One` is left alone, and what is no store is not written over.
     ensures other { KeepsOne (D.past disk) (D.past result.disk) }
-    ensures left { D.tells → IfErr result.text (LeavesNoStore 268435456 (D.seen disk) (D.seen result.disk) (D.past disk) (D.past result.disk)) }
+    ensures left { D.tells → IfErr result.text (LeavesNoStore store_bytes (D.seen disk) (D.seen result.disk) (D.past disk) (D.past result.disk)) }
     ensures runs { Runs O.tells (O.files folder.old) D.tells (D.seen disk) (D.past disk) (D.past result.disk) name.now moment result.text }
     ensures same { O.tells → (O.files folder.new ≡ O.files folder.old) }
     ensures folder_cause { FaultsBy (O.faults folder.old) (O.faults folder.new) result.text (ended_by RunError.FolderFault) }

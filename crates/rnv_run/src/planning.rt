@@ -1,6 +1,7 @@
 ghost use Rattle.std.specs.Prelude.{◌≡◌, ◌≢◌, ◌⊎◌, ◌≤◌, ◌<◌, ◌+◌, [], Some, None, false, length, IfErr, IfOk, IsErrOf};
 ghost use Rattle.rnv_base.specs.Causes.{FaultsBy};
 ghost use Rattle.rnv_base.specs.Moment.{IsMoment};
+ghost use Rattle.rnv_base.specs.Limits.{most_items};
 ghost use Rattle.rnv_desired.specs.Givens.{IsGiven};
 ghost use Rattle.rnv_repo.specs.Requests.{greatest};
 ghost use Rattle.rnv_repo.specs.Store.{after, known};
@@ -76,7 +77,7 @@ fn given_of<O: Folder>(
     ensures given { IfOk result (λ wanted. IsGiven O.tells (O.files folder.old) repo.files moment (given_by wanted.terms.moment wanted.items)) }
     ensures told { IfOk result (λ wanted. IsTold (given_by wanted.terms.moment wanted.items) wanted.repo wanted.terms wanted.items) }
     ensures fit { IfOk result (λ wanted. IsFit (given_by wanted.terms.moment wanted.items)) }
-    ensures few { IfOk result (λ wanted. length wanted.items ≤ 5000) }
+    ensures few { IfOk result (λ wanted. length wanted.items ≤ most_items) }
     ensures refused { O.tells → IfErr result (IfTold (IsBaseRefusal (O.files folder.old) moment repo.files)) }
     ensures disk { result ≢ Err RunError.DiskFault }
     ensures unknown { result ≢ Err RunError.UnknownRepo }
@@ -113,7 +114,7 @@ fn find_wanted<F: Forge, O: Folder>(
     ensures given { IfOk result (λ wanted. IsGiven O.tells (O.files folder.old) wanted.repo.files moment (given_by wanted.terms.moment wanted.items)) }
     ensures told { IfOk result (λ wanted. IsTold (given_by wanted.terms.moment wanted.items) wanted.repo wanted.terms wanted.items) }
     ensures fit { IfOk result (λ wanted. IsFit (given_by wanted.terms.moment wanted.items)) }
-    ensures few { IfOk result (λ wanted. length wanted.items ≤ 5000) }
+    ensures few { IfOk result (λ wanted. length wanted.items ≤ most_items) }
     ensures known { IfErr result (IsOfRepo name.now (F.writes forge.now)) }
     ensures refused { O.tells → IfErr result (IfTold (IsUnwanted (O.files folder.old) name.now moment (F.writes forge.now))) }
     ensures disk { result ≢ Err RunError.DiskFault }

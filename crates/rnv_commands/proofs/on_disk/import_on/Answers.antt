@@ -1,3 +1,4 @@
+use Rattle.rnv_base.specs.Limits.{store_bytes}
 use Rattle.rnv_commands.proofs.Printed.{if_err}
 use Rattle.rnv_commands.proofs.Refusals.{if_done, import_left, not_imported, start_cause, start_folder, start_left, start_not_imported, folder_still}
 use Rattle.rnv_commands.proofs.Stops.{keeps_still, or_import, reads_or_import, stored_of}
@@ -7,13 +8,13 @@ use Rattle.rnv_commands.proofs.on_disk.import_on.Goals as goal
 
 pub returns-in-Ok-clause-any_moment : goal.returns-in-Ok-clause-any_moment
 returns-in-Ok-clause-any_moment g c =
-    reads_or_import 268435456 g.D.Disk.tells _ _ _ _ c.in-Ok.ensures.any_moment (λ t. reading_now _ _ (g.D.Disk.seen c.args.disk) _ (g.met.D.Disk.reads_now c.args.disk t) (c.in-Ok.ensures.writes t))
+    reads_or_import store_bytes g.D.Disk.tells _ _ _ _ c.in-Ok.ensures.any_moment (λ t. reading_now _ _ (g.D.Disk.seen c.args.disk) _ (g.met.D.Disk.reads_now c.args.disk t) (c.in-Ok.ensures.writes t))
     (λ t i left. g.met.D.Disk.only_told _ _ i left) _ _ _ c.import_started.ensures.any_moment
 
 pub returns-in-Ok-clause-unwritten : goal.returns-in-Ok-clause-unwritten
 returns-in-Ok-clause-unwritten g c =
     if_err c.import_started.result.text _ _
-    (λ error run ne. keeps_still 268435456 g.D.Disk.tells _ _ _ _ c.in-Ok.ensures.any_moment (λ t. reading_now _ _ (g.D.Disk.seen c.args.disk) _ (g.met.D.Disk.reads_now c.args.disk t) (c.in-Ok.ensures.writes t))
+    (λ error run ne. keeps_still store_bytes g.D.Disk.tells _ _ _ _ c.in-Ok.ensures.any_moment (λ t. reading_now _ _ (g.D.Disk.seen c.args.disk) _ (g.met.D.Disk.reads_now c.args.disk t) (c.in-Ok.ensures.writes t))
     (λ t i left. g.met.D.Disk.only_told _ _ i left) (run ne))
     c.import_started.ensures.unwritten
 

@@ -1,4 +1,5 @@
 use Rattle.std.proofs.Common.{[]}
+use Rattle.rnv_base.specs.Limits.{store_bytes}
 use Rattle.rnv_commands.proofs.Printed.{if_err}
 use Rattle.rnv_commands.proofs.Refusals.{if_done, not_shown, show_left, start_cause, start_folder, start_left, start_not_shown}
 use Rattle.rnv_commands.proofs.Stops.{keeps_at, one_at, stored_of}
@@ -38,7 +39,7 @@ pub returns-in-Ok-clause-other : goal.returns-in-Ok-clause-other
 returns-in-Ok-clause-other g c = one_at g.D.Disk.past _ _ _ c.into_disk.ensures c.in-Ok.ensures.other
 
 pub returns-in-Ok-clause-any_moment : goal.returns-in-Ok-clause-any_moment
-returns-in-Ok-clause-any_moment g c = keeps_at g.D.Disk.past 268435456 _ _ _ c.into_disk.ensures c.in-Ok.ensures.any_moment
+returns-in-Ok-clause-any_moment g c = keeps_at g.D.Disk.past store_bytes _ _ _ c.into_disk.ensures c.in-Ok.ensures.any_moment
 
 pub returns-in-Err-clause-any_moment : goal.returns-in-Err-clause-any_moment
 returns-in-Err-clause-any_moment g c = c.in-Err.ensures.any_moment_refused

@@ -1,4 +1,5 @@
 use Rattle.std.proofs.Common.{◌≡◌, ◌<◌, List, length, codes, map, ap, ◌∙◌}
+use Rattle.rnv_base.specs.Limits.{most_dependencies}
 use Rattle.rnv_base.specs.declared.kinds.ManagerKind.TheVariants.{Npm}
 use Rattle.rnv_repo.specs.Files.{MarkedFile}
 use Rattle.rnv_manager.specs.declared.found.Found.{Found}
@@ -14,7 +15,7 @@ pub returns-then-len-room-clause-many : goal.returns-then-len-room-clause-many
 returns-then-len-room-clause-many c =
     let f = c.args.file.now in
     let many = npm-many f c.as_slice.result.now c.in_ok-found.found c.args.room c.len.result (c.as_slice.ensures ∙ ap (λ (m : MarkedFile). m.bytes) c.file.view_is) c.in_ok-found.ensures c.len.ensures c.if-len-room.true in
-    IfTold-weaker (λ e. e ≡ Limit (codes "dependencies") 20000) (λ e. (ds : List Dep) × AreDeps Npm f ds × (c.args.room < length ds) × (e ≡ Limit (codes "dependencies") 20000)) c.limit.result
+    IfTold-weaker (λ e. e ≡ Limit (codes "dependencies") most_dependencies) (λ e. (ds : List Dep) × AreDeps Npm f ds × (c.args.room < length ds) × (e ≡ Limit (codes "dependencies") most_dependencies)) c.limit.result
     (λ e same. (many.0, many.1, many.2, same)) c.limit.ensures.told
 
 pub returns-clause-deps : goal.returns-clause-deps

@@ -1,5 +1,6 @@
 use Rattle.std.proofs.Common.{◌≡◌, ◌+◌, ◌<◌, List, [], ◌∷◌, ◌++◌, Err, length, take, codes, ap, sym, subst, ◌∙◌, arith}
 use Rattle.std.proofs.lemmas.Result.{err_from_is_err_and}
+use Rattle.rnv_base.specs.Limits.{most_dependencies}
 use Rattle.rnv_repo.specs.Files.{MarkedFile}
 use Rattle.rnv_pick.specs.declared.dep.Dep.{Dep}
 use Rattle.rnv_plan.specs.declared.error.RunError.TheVariants.{Limit}
@@ -20,7 +21,7 @@ returns-in_err-deps-clause-many c =
     let room = c.loop-file.room in
     let manager = sym (c.manager_of.ensures ∙ ap manager_of (c.as_str.ensures ∙ ap (λ (g : MarkedFile). g.path) c.file.view_is)) ∙ c.in-Some.is in
     let ends = err_from_is_err_and c.from_residual.result c.from_residual.ensures.1 in
-    told-at c.from_residual.result c.in_err-deps.field-0.0 (λ e. (ds : List Dep) × AreDeps m f ds × (room < length ds) × (e ≡ Limit (codes "dependencies") 20000)) (λ e. HaveMany files × (e ≡ Limit (codes "dependencies") 20000)) (ends.1 ∙ ap Err ends.2)
+    told-at c.from_residual.result c.in_err-deps.field-0.0 (λ e. (ds : List Dep) × AreDeps m f ds × (room < length ds) × (e ≡ Limit (codes "dependencies") most_dependencies)) (λ e. HaveMany files × (e ≡ Limit (codes "dependencies") most_dependencies)) (ends.1 ∙ ap Err ends.2)
     (λ e h. (many-from files c.loop-file.file-index f c.loop-file.taken m h.0 room c.loop-file-test.true c.file-item.is c.loop-file.invariant.read c.loop-file.invariant.room manager h.1 h.2, h.3)) c.in_err-deps.ensures.many
 
 pub loop-file-preserved : goal.loop-file-preserved
