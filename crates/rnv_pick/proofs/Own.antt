@@ -1,6 +1,6 @@
 -- Each update is of the dependency that it was picked for, with its current version.
 use Rattle.std.proofs.Common.{◌≡◌, ℕ, Bool, true, false, List, [], ◌∷◌, ◌++◌, Option, Some, None, refl, sym, ◌∙◌, ap}
-use Rattle.std.specs.Prelude.{MatchBool, if◌then◌else◌, unwrap_or}
+use Rattle.std.specs.Prelude.{MatchBool, ◌&&◌, not, if◌then◌else◌, unwrap_or}
 use Rattle.std.specs.List.{All, flat_map}
 use Rattle.std.proofs.lemmas.List.Elements.{All-append, All-cons, All-nil, All-same}
 use Rattle.rnv_base.specs.declared.kinds.SourceKind.{SourceKind}
@@ -18,7 +18,8 @@ use Rattle.rnv_pick.specs.declared.update.Update.{Update}
 use Rattle.rnv_pick.specs.BySource.{IsPickedFrom}
 use Rattle.rnv_pick.specs.Listing.{Listed, live_releases}
 use Rattle.rnv_pick.specs.Options.{Options, with_current}
-use Rattle.rnv_pick.specs.Updates.{AreToChosen, AreUnlessSkipped, AreUpdates, AreUpdatesAt, IsPicked, enabled_update, pin_choice, pin_updates, pin_with, update_of, updates_to}
+use Rattle.rnv_pick.specs.Candidates.{Aim}
+use Rattle.rnv_pick.specs.Updates.{AreToChosen, AreUnlessSkipped, AreUpdates, AreUpdatesAt, IsPicked, is_pin, pin_choice, pin_updates, pin_with, start_of, update_of, updates_to}
 
 module _ (dep : Dep) where
   abbrev Own : Update → Type 0
@@ -51,8 +52,10 @@ module _ (dep : Dep) where
     own_at : (options : DepOptions) (range : R) (current : List ℕ) (version : Option V) (us : List Update) → AreUpdatesAt n o moment dep options found range current version us → All Own us
     own_at options range current None us none = own_none us none
     own_at options range current (Some version) us are =
-        own_match _ us (pin_updates n o dep options current) _ (own_pin o options current (n.new_text options.strategy dep.value current))
-        (λ to. All-same Own us (flat_map (updates_to dep options) to.choices) to.same (own_chosen options to.choices)) are
+        own_match (is_pin options.strategy && not (n.is_exact range)) us (pin_updates n o dep options current)
+        (AreToChosen n o moment (record { dep = dep; options = options; start = start_of n options dep.value range version }) found us)
+        (own_pin o options current (n.new_text options.strategy dep.value current))
+        (λ (to : AreToChosen n o moment (record { dep = dep; options = options; start = start_of n options dep.value range version }) found us). All-same Own us (flat_map (updates_to dep options) to.choices) to.same (own_chosen options to.choices)) are
 
     own_updates : (range : Option R) (current : Option (List ℕ)) (us : List Update) → AreUpdates n o moment dep found range current us → All Own us
     own_updates None None us none = own_none us none

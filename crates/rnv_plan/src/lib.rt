@@ -25,7 +25,7 @@ pub use error::RunError;
 pub use gather::{gather_base, gather_folder};
 pub use group::Group;
 pub use grouping::{items, one_order};
-pub use inputs::{Inputs, Picked, PickedDep, PickedFile, Planned};
+pub use inputs::{Inputs, PickedDep, PickedFile, Planned};
 pub use kept::kept_files;
 pub use named::{KeptDep, KeptFile, NamedUpdate};
 pub use planning::{few_items, one_refusal, plan_folder};

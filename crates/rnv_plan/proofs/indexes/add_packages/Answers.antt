@@ -1,12 +1,15 @@
 use Rattle.std.proofs.Common.{◌≡◌, ◌+◌, ◌<◌, ℕ, ◌∷◌, ◌++◌, [], Bool, true, false, cond, length, get_or, take, List, ◌∙◌, ap, sym, subst, rules, arith, append_assoc, append-nil}
 use Rattle.std.specs.Prelude.{filter}
+use Rattle.std.specs.BTreeSet.{BTreeSet, IsOrdered}
+use Rattle.std.specs.Ordering.{nat_cmp}
+use Rattle.std.specs.Cmp.Lexicographic.{slice_cmp}
 use Rattle.std.proofs.lemmas.List.{take_all}
 use Rattle.std.proofs.lemmas.List.Elements.{filter_more}
 use Rattle.rnv_pick.specs.declared.dep.Dep.{Dep}
 use Rattle.rnv_plan.specs.Packages.{AreNames}
 use Rattle.rnv_plan.specs.Taken.{is_readable}
 use Rattle.rnv_plan.proofs.Documents.{names_more}
-use Rattle.rnv_plan.proofs.indexes.add_packages.Goals.{in-then, in-else}
+use Rattle.rnv_plan.proofs.indexes.add_packages.Goals.{then-branch+in_ok-share+in_ok-insert, else-branch}
 use Rattle.rnv_plan.proofs.indexes.add_packages.Goals as goal
 
 -- the readable ones of one dependency more
@@ -17,6 +20,25 @@ longer before deps i d b within at is =
 
 pub loop-dep-init : goal.loop-dep-init
 loop-dep-init c = λ before names. rw append-nil names
+
+pub loop-dep-preserved : goal.loop-dep-preserved
+loop-dep-preserved c = λ before names.
+    let deps = c.args.deps.now in
+    let i = c.loop-dep.dep-index in
+    let d = c.dep-item.result in
+    let so_far = before ++ filter is_readable (take i deps) in
+    let had : AreNames so_far c.loop-dep.names = c.loop-dep.invariant before names in
+    elim c.if-branch.branch [
+      | then-branch+in_ok-share+in_ok-insert w ↦
+          let readable : is_readable d ≡ true = search rules in
+          let ordered : IsOrdered (slice_cmp nat_cmp) w.insert.new.self = search rules in
+          let more : AreNames (so_far ++ d ∷ []) w.insert.new.self = names_more so_far c.loop-dep.names w.insert.new.self d w.in_ok-share.field-0 w.in_ok-share.ensures w.in_ok-insert.ensures.updates w.in_ok-insert.ensures.keys ordered had in
+          subst (λ (es : List Dep). AreNames es c.if-branch.names) (sym (longer before deps i d true c.loop-dep-test.true c.dep-item.is readable)) (subst (λ (n : BTreeSet (List ℕ)). AreNames (so_far ++ d ∷ []) n) (sym w.names-is) more)
+      | else-branch w ↦
+          let unreadable : is_readable d ≡ false = search rules in
+          let same : before ++ filter is_readable (take (i + 1) deps) ≡ so_far = longer before deps i d false c.loop-dep-test.true c.dep-item.is unreadable ∙ append-nil so_far in
+          subst (λ (es : List Dep). AreNames es c.if-branch.names) (sym same) (subst (λ (n : BTreeSet (List ℕ)). AreNames so_far n) (sym w.names-is) had)
+    ]
 
 pub returns : goal.returns
 returns c = λ before names.

@@ -10,8 +10,8 @@ use Rattle.rnv_plan.proofs.Rising.{below_place}
 use Rattle.rnv_plan.proofs.Told.{IfTold-weaker}
 use Rattle.rnv_plan.proofs.not_built.check_each.Goals as goal
 
-pub returns-then-not-branch-clause-unbuilt : goal.returns-then-not-branch-clause-unbuilt
-returns-then-not-branch-clause-unbuilt c =
+pub returns-then-not-is_built-clause-unbuilt : goal.returns-then-not-is_built-clause-unbuilt
+returns-then-not-is_built-clause-unbuilt c =
     let ts = c.args.taken.now in
     let t = c.file-item.result in
     let i = c.loop-file.file-index in
