@@ -2,8 +2,11 @@
 //! gives for a package.
 #![tactic(auto)]
 
+mod crates;
 mod datasource;
+mod docker;
 mod json;
+mod lines;
 mod lookup;
 mod moments;
 mod npm;
@@ -13,7 +16,9 @@ mod release;
 mod tests;
 mod times;
 
+pub use crates::CrateIndex;
 pub use datasource::{Datasource, IndexError};
+pub use docker::DockerIndex;
 pub use lookup::{ReadIndexError, read_releases};
 pub use npm::NpmIndex;
 pub use release::Release;
