@@ -49,8 +49,8 @@ fn first_releases(alloc: Global, bytes: &[u8], most: usize) -> Result<List<Relea
     let mut releases = List::empty(alloc);
     let mut rest = Some(bytes);
     let mut number = 0;
-    while let Some(bytes) = rest {
-        let (line, behind) = next_line(bytes);
+    while let Some(left) = rest {
+        let (line, behind) = next_line(left);
         number += 1;
         add_line(alloc, &mut releases, most, number, line)?;
         rest = behind;

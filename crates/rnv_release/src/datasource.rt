@@ -2,6 +2,7 @@ ghost use Rattle.std.specs.Prelude.{◌≡◌, ◌<◌, ◌≤◌, ℕ, List, le
 ghost use Rattle.rnv_base.specs.Limits.{most_releases};
 ghost use Rattle.rnv_release.specs.Reading.{Reading, listed, refused};
 ghost use Rattle.rnv_release.specs.Refusal.{IfBadIndex, IfTooManyReleases, ListsMore};
+ghost use Rattle.rnv_release.specs.declared.datasource.IndexError.TheVariants as index_error;
 
 use crate::Release;
 use rnv_base::{List, MOST_RELEASES, Text};
@@ -19,7 +20,7 @@ pub enum IndexError {
 }
 
 impl From<AllocError> for IndexError {
-    ghost from_gives = { λ _ error. error ≡ IndexError.Memory };
+    ghost from_gives = { λ _ error. error ≡ index_error.Memory };
 
     fn from(_error: AllocError) -> IndexError {
         IndexError::Memory
