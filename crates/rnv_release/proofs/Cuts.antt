@@ -1,5 +1,5 @@
 -- The front of what lines list.
-use Rattle.std.proofs.Common.{◌≡◌, ◌∙◌, ◌≤◌, ◌<◌, ◌+◌, ℕ, suc, min, [], ◌∷◌, ◌++◌, append-nil, List, length, take, Option, Some, None, true, false, refl, sym, ap, arith}
+use Rattle.std.proofs.Common.{◌≡◌, ◌∙◌, ◌≤◌, ◌<◌, ◌+◌, ℕ, suc, min, [], ◌∷◌, ◌++◌, append-nil, List, length, take, Option, Some, None, Result, Ok, Err, IfOk, IfErr, true, false, refl, sym, ap, arith}
 use Rattle.std.proofs.lemmas.Bool.{cond-true, cond-false}
 use Rattle.std.proofs.lemmas.List.{append_assoc, take_all, take-append-le, length-take}
 use Rattle.rnv_release.specs.declared.release.Release.{Release}
@@ -7,7 +7,9 @@ use Rattle.rnv_release.specs.Crates.{line_release, with_line, with_release}
 use Rattle.rnv_release.specs.Cut.{before, cut}
 use Rattle.rnv_release.specs.Lines.{is_blank}
 use Rattle.rnv_release.specs.Reading.{Reading, listed, refused}
-use Rattle.rnv_release.specs.Refusal.{ListsMore}
+use Rattle.rnv_release.specs.Refusal.{IfTooManyReleases, ListsMore}
+use Rattle.rnv_release.specs.declared.datasource.IndexError.{IndexError}
+use Rattle.rnv_release.specs.declared.datasource.IndexError.TheVariants.{BadIndex, TooManyReleases, Memory}
 
 -- ---- no releases before, and none behind
 
@@ -44,16 +46,28 @@ pub more-cut : (reading : Reading) (releases : List Release) → cut (50000 + 1)
 more-cut (listed all) releases is more = longer 50000 all releases (listed-cut _ releases is) more
 more-cut (refused line) releases is more = absurd (cc)
 
+-- ---- within the limit
+
+pub listed-within : (result : Result (List Release) IndexError) (reading : Reading) (releases : List Release) → cut (50000 + 1) reading ≡ listed releases → IfOk result (λ few. (few ≡ releases) × (length releases ≤ 50000)) → IfOk result (λ few. reading ≡ listed few)
+listed-within (Ok few) reading releases is within = few-cut 50000 reading releases is within.1 ∙ ap listed (sym within.0)
+listed-within (Err e) reading releases is within = tt
+
+pub above : (result : Result (List Release) IndexError) (reading : Reading) (releases : List Release) → cut (50000 + 1) reading ≡ listed releases → IfErr result (IfTooManyReleases (λ number. (number ≡ 50000) × (50000 < length releases))) → IfErr result (IfTooManyReleases (λ number. (number ≡ 50000) × ListsMore reading))
+above (Ok few) reading releases is more = tt
+above (Err (BadIndex line)) reading releases is more = tt
+above (Err (TooManyReleases number)) reading releases is more = (more.0, more-cut reading releases is more.1)
+above (Err Memory) reading releases is more = tt
+
 -- ---- a line more
 
 pub blank-line : (number : ℕ) (line : List ℕ) (behind : Reading) → is_blank line ≡ true → with_line number line behind ≡ behind
-blank-line number line behind yes = cond-true _ _ _ yes
+blank-line number line behind blank = cond-true _ _ _ blank
 
 pub line-release : (number : ℕ) (line : List ℕ) (release : Release) (behind : Reading) → is_blank line ≡ false → line_release line ≡ Some release → with_line number line behind ≡ with_release number (Some release) behind
-line-release number line release behind no is = cond-false _ _ _ no ∙ ap (λ (r : Option Release). with_release number r behind) is
+line-release number line release behind filled is = cond-false _ _ _ filled ∙ ap (λ (r : Option Release). with_release number r behind) is
 
 pub line-refused : (number : ℕ) (line : List ℕ) (behind : Reading) → is_blank line ≡ false → line_release line ≡ None → with_line number line behind ≡ refused number
-line-refused number line behind no is = cond-false _ _ _ no ∙ ap (λ (r : Option Release). with_release number r behind) is
+line-refused number line behind filled is = cond-false _ _ _ filled ∙ ap (λ (r : Option Release). with_release number r behind) is
 
 pub added : (number : ℕ) (old new : List Release) (release : Release) (behind : Reading) → new ≡ old ++ release ∷ [] → before new behind ≡ before old (with_release number (Some release) behind)
 added number old new release (listed releases) is = ap (λ (rs : List Release). listed (rs ++ releases)) is ∙ ap listed (append_assoc old (release ∷ []) releases)

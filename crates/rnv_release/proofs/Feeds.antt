@@ -16,19 +16,19 @@ some m n is = cc
 -- the place of the first line feed, and the lines around it
 pub feed-at : (bytes : List ℕ) (at : ℕ) → position is_feed bytes ≡ Some at → (at < length bytes) × (lines bytes ≡ take at bytes ∷ lines (drop (at + 1) bytes))
 feed-at bytes at is = elim (cases_Bool (nat_lt (feed bytes) (length bytes))) [
-  | inl yes ↦
-      let same = some (feed bytes) at (sym (cond-true _ _ _ yes) ∙ is) in
-      let below : feed bytes < length bytes = ltb-true (feed bytes) (length bytes) yes in
+  | inl here ↦
+      let same = some (feed bytes) at (sym (cond-true _ _ _ here) ∙ is) in
+      let below : feed bytes < length bytes = ltb-true (feed bytes) (length bytes) here in
       (omega arith, slice_split_first is_feed bytes 0 below ∙ ap (λ (n : ℕ). take n bytes ∷ lines (drop (n + 1) bytes)) same)
-  | inr no ↦ let none : None ≡ Some at = sym (cond-false _ _ _ no) ∙ is in absurd (cc)
+  | inr none ↦ let differ : None ≡ Some at = sym (cond-false _ _ _ none) ∙ is in absurd (cc)
 ]
 
 -- a document without one is one line
 pub no-feed : (bytes : List ℕ) → position is_feed bytes ≡ None → lines bytes ≡ bytes ∷ []
 no-feed bytes is = elim (cases_Bool (nat_lt (feed bytes) (length bytes))) [
-  | inl yes ↦ let some : Some (feed bytes) ≡ None = sym (cond-true _ _ _ yes) ∙ is in absurd (cc)
-  | inr no ↦
-      let above : length bytes ≤ feed bytes = ltb-false (feed bytes) (length bytes) no in
+  | inl here ↦ let differ : Some (feed bytes) ≡ None = sym (cond-true _ _ _ here) ∙ is in absurd (cc)
+  | inr none ↦
+      let above : length bytes ≤ feed bytes = ltb-false (feed bytes) (length bytes) none in
       slice_split_none is_feed bytes (λ k d lt. fails_before_first is_feed bytes k d (omega arith))
 ]
 

@@ -7,6 +7,7 @@ pub mod Crates
 pub mod Npm
 pub mod Docker
 pub mod Cut
+pub mod Sources
 pub mod Parts
 pub mod Times
 pub mod Package

@@ -2,6 +2,7 @@
 //! gives for a package.
 #![tactic(auto)]
 
+mod by_source;
 mod crates;
 mod datasource;
 mod docker;

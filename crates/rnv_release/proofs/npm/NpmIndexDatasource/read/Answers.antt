@@ -6,7 +6,7 @@ use Rattle.rnv_release.specs.Reading.{listed}
 use Rattle.rnv_release.proofs.Listing.{length-listed}
 use Rattle.rnv_release.proofs.npm.NpmIndexDatasource.read.Goals as goal
 
-pub returns-then-len-gt-MOST_RELEASES-clause-many : goal.returns-then-len-gt-MOST-clause-many
+pub returns-then-len-gt-MOST_RELEASES-clause-many : goal.returns-then-len-gt-MOST_RELEASES-clause-many
 returns-then-len-gt-MOST_RELEASES-clause-many c =
     let release = release_of (Some (object (members_view c.in-Some.times.entries))) in
     let releases = map release (names_of (members_view c.in-Some.versions.entries)) in
