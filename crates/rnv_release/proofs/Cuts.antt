@@ -1,5 +1,5 @@
 -- The front of what lines list.
-use Rattle.std.proofs.Common.{◌≡◌, ◌∙◌, ◌≤◌, ◌<◌, ◌+◌, ℕ, suc, min, [], ◌∷◌, ◌++◌, append-nil, List, length, take, Option, Some, None, Result, Ok, Err, IfOk, IfErr, true, false, refl, sym, ap, arith}
+use Rattle.std.proofs.Common.{◌≡◌, ◌∙◌, ◌≤◌, ◌<◌, ◌+◌, ℕ, [], ◌∷◌, ◌++◌, append-nil, List, length, take, Option, Some, None, Result, Ok, Err, IfOk, IfErr, true, false, refl, sym, ap, arith}
 use Rattle.std.proofs.lemmas.Bool.{cond-true, cond-false}
 use Rattle.std.proofs.lemmas.List.{append_assoc, take_all, take-append-le, length-take}
 use Rattle.rnv_release.specs.declared.release.Release.{Release}

@@ -1,7 +1,8 @@
 use crate::{
-    CrateIndex, Datasource, DockerIndex, IndexError, NpmIndex, ReadIndexError, Release, read_releases,
+    CrateIndex, Datasource, DockerIndex, IndexError, NpmIndex, ReadIndexError, Release,
+    read_releases,
 };
-use rnv_base::{Bytes, List, MemFile, MemFolder, Share, SteadyFolder, Text};
+use rnv_base::{Bytes, List, MemFile, MemFolder, Share, SourceKind, SteadyFolder, Text};
 use std::alloc::{AllocError, Global};
 use std::convert::{AsSlice, AsStr};
 use std::test::Fail;
@@ -132,10 +133,7 @@ fn file(alloc: Global, path: &str, bytes: &[u8]) -> Result<MemFile, AllocError> 
 }
 
 // What a document gives: its releases, or the line that is refused.
-fn told(
-    alloc: Global,
-    read: Result<List<Release>, IndexError>,
-) -> Result<String, AllocError> {
+fn told(alloc: Global, read: Result<List<Release>, IndexError>) -> Result<String, AllocError> {
     match read {
         Ok(releases) => shown(alloc, releases.as_slice()),
         Err(IndexError::BadIndex { line }) => format!(in alloc; "line {line}"),
@@ -216,7 +214,13 @@ fn reads_documents_of_image_tags(rt: HostRuntime) -> Result<(), Fail> {
 }
 
 // So many copies of a text, with the same end behind them.
-fn many(alloc: Global, front: &str, each: &str, count: u32, end: &str) -> Result<String, AllocError> {
+fn many(
+    alloc: Global,
+    front: &str,
+    each: &str,
+    count: u32,
+    end: &str,
+) -> Result<String, AllocError> {
     let mut document = String::from_str(alloc, front)?;
     for _ in 0..count {
         document.push_str(each)?;
@@ -279,13 +283,13 @@ fn reads_the_releases_of_a_folder(rt: HostRuntime) -> Result<(), Fail> {
         ),
         _ => assert!(rt; false),
     }
-    match read_releases(alloc, &mut folder, &CrateIndex, "serde") {
+    match read_releases(alloc, &mut folder, &SourceKind::Crates, "serde") {
         Ok(Some(releases)) => assert!(rt;
             shown(alloc, releases.as_slice())?.as_str() == "1.0.0=none 1.0.1=none! "
         ),
         _ => assert!(rt; false),
     }
-    match read_releases(alloc, &mut folder, &DockerIndex, "library/node") {
+    match read_releases(alloc, &mut folder, &SourceKind::Docker, "library/node") {
         Ok(Some(releases)) => assert!(rt;
             shown(alloc, releases.as_slice())?.as_str() == "20.11.1-alpine=none "
         ),
@@ -297,7 +301,7 @@ fn reads_the_releases_of_a_folder(rt: HostRuntime) -> Result<(), Fail> {
             "{name}"
         );
     }
-    match read_releases(alloc, &mut folder, &NpmIndex, "bad") {
+    match read_releases(alloc, &mut folder, &SourceKind::Npm, "bad") {
         Err(error) => assert!(rt; error == ReadIndexError::BadIndex { line: 1 }),
         Ok(_) => assert!(rt; false),
     }
