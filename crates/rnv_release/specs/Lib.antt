@@ -2,7 +2,12 @@ pub mod Reading
 pub mod Refusal
 pub mod Json
 pub mod Moments
+pub mod Lines
+pub mod Crates
 pub mod Npm
+pub mod Docker
+pub mod Cut
+pub mod Sources
 pub mod Parts
 pub mod Times
 pub mod Package

@@ -1,6 +1,6 @@
 -- The moments that the texts of documents tell: instants (RFC 3339, as `jiff` reads it), rounded down to
 -- seconds since 1970-01-01T00:00:00Z.
-use Rattle.std.specs.Prelude.{ℕ, ◌/◌, ℤ, pos, negsuc, List, nat_le, if◌then◌else◌, Option, Some, None, option_and_then, Result, Ok, Err}
+use Rattle.std.specs.Prelude.{ℕ, ◌/◌, ℤ, pos, negsuc, nat_le, if◌then◌else◌, Option, Some, None, option_and_then, Result, Ok, Err}
 use Rattle.serde_json.specs.Data.{Data}
 use Rattle.serde_json.specs.Find.{as_str}
 use Rattle.jiff_core.specs.declared.error.Error.{Error}

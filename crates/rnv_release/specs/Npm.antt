@@ -6,7 +6,7 @@ use Rattle.serde_json.specs.Find.{get, as_object}
 use Rattle.rnv_release.specs.declared.release.Release.{Release}
 use Rattle.rnv_release.specs.Json.{json_of}
 use Rattle.rnv_release.specs.Moments.{time_of}
-use Rattle.rnv_release.specs.Reading.{Reading, listed, refused}
+use Rattle.rnv_release.specs.Reading.{Reading, reading_of}
 
 abbrev pub npm_path : List ℕ → List ℕ
 npm_path name = codes "index/npm/" ++ name ++ codes ".json"
@@ -32,10 +32,6 @@ releases_of times versions = if are_times times then Some (map (release_of times
 -- the releases that a JSON value lists
 abbrev pub npm_releases : Data → Option (List Release)
 npm_releases document = option_and_then (releases_of (get (codes "time") document)) (option_and_then as_object (get (codes "versions") document))
-
-abbrev reading_of : Option (List Release) → Reading
-reading_of None = refused 1
-reading_of (Some releases) = listed releases
 
 -- what an npm document lists
 abbrev pub npm_reading : List ℕ → Reading

@@ -1,5 +1,6 @@
 -- Why a document gives no releases.
 use Rattle.std.specs.Prelude.{◌<◌, ℕ, length}
+use Rattle.rnv_base.specs.Limits.{most_releases}
 use Rattle.rnv_release.specs.declared.datasource.IndexError.{IndexError}
 use Rattle.rnv_release.specs.declared.datasource.IndexError.TheVariants.{BadIndex, TooManyReleases, Memory}
 use Rattle.rnv_release.specs.Reading.{Reading, listed, refused}
@@ -18,5 +19,5 @@ IfTooManyReleases P Memory = Unit {0}
 
 -- the document lists more than 50,000 releases
 abbrev pub ListsMore : Reading → Type 0
-ListsMore (listed releases) = 50000 < length releases
+ListsMore (listed releases) = most_releases < length releases
 ListsMore (refused line) = ⊥

@@ -1,9 +1,11 @@
-ghost use Rattle.std.specs.Prelude.{◌≡◌, ◌≤◌, ℕ, List, length, IfOk, IfErr};
+ghost use Rattle.std.specs.Prelude.{◌≡◌, ◌<◌, ◌≤◌, ℕ, List, length, IfOk, IfErr};
+ghost use Rattle.rnv_base.specs.Limits.{most_releases};
 ghost use Rattle.rnv_release.specs.Reading.{Reading, listed, refused};
 ghost use Rattle.rnv_release.specs.Refusal.{IfBadIndex, IfTooManyReleases, ListsMore};
+ghost use Rattle.rnv_release.specs.declared.datasource.IndexError.TheVariants as index_error;
 
 use crate::Release;
-use rnv_base::{List, Text};
+use rnv_base::{List, MOST_RELEASES, Text};
 use std::alloc::{AllocError, Global};
 
 /// Why a document gives no releases.
@@ -15,6 +17,14 @@ pub enum IndexError {
     TooManyReleases { number: u64 },
     /// Want of memory.
     Memory,
+}
+
+impl From<AllocError> for IndexError {
+    ghost from_gives = { λ _ error. error ≡ index_error.Memory };
+
+    fn from(_error: AllocError) -> IndexError {
+        IndexError::Memory
+    }
 }
 
 /// A kind of index: where the document of a package lies, and what it lists.
@@ -32,7 +42,21 @@ pub trait Datasource {
     /// The releases that a document lists, at most 50,000 of them.
     fn read(&self, alloc: Global, bytes: &[u8]) -> Result<List<Release>, IndexError>
         ensures listed { IfOk result (λ releases. reading self.now bytes.now ≡ listed releases) }
-        ensures few { IfOk result (λ releases. length releases ≤ 50000) }
+        ensures few { IfOk result (λ releases. length releases ≤ most_releases) }
         ensures bad { IfErr result (IfBadIndex (λ line. reading self.now bytes.now ≡ refused line)) }
-        ensures many { IfErr result (IfTooManyReleases (λ number. (number ≡ 50000) × ListsMore (reading self.now bytes.now))) };
+        ensures many { IfErr result (IfTooManyReleases (λ number. (number ≡ most_releases) × ListsMore (reading self.now bytes.now))) };
+}
+
+// The releases of a document, if they are at most 50,000.
+pub(crate) fn limited(releases: List<Release>) -> Result<List<Release>, IndexError>
+    ensures value { IfOk result (λ few. (few ≡ releases) × (length releases ≤ most_releases)) }
+    ensures bad { IfErr result (IfBadIndex (λ line. ⊥)) }
+    ensures many { IfErr result (IfTooManyReleases (λ number. (number ≡ most_releases) × (most_releases < length releases))) }
+{
+    if releases.len() > MOST_RELEASES {
+        return Err(IndexError::TooManyReleases {
+            number: MOST_RELEASES as u64,
+        });
+    }
+    Ok(releases)
 }

@@ -2,8 +2,12 @@
 //! gives for a package.
 #![tactic(auto)]
 
+mod by_source;
+mod crates;
 mod datasource;
+mod docker;
 mod json;
+mod lines;
 mod lookup;
 mod moments;
 mod npm;
@@ -13,7 +17,9 @@ mod release;
 mod tests;
 mod times;
 
+pub use crates::CrateIndex;
 pub use datasource::{Datasource, IndexError};
+pub use docker::DockerIndex;
 pub use lookup::{ReadIndexError, read_releases};
 pub use npm::NpmIndex;
 pub use release::Release;

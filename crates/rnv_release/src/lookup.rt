@@ -1,16 +1,14 @@
 ghost use Rattle.std.specs.Prelude.{◌≡◌, ◌≢◌, ◌≤◌, length, IfOk, IfSome};
 ghost use Rattle.rnv_base.specs.Causes.{FaultsBy, PassesNone};
+ghost use Rattle.rnv_base.specs.Limits.{most_releases};
 ghost use Rattle.rnv_base.specs.Names.{IsPackageName};
 ghost use Rattle.rnv_release.specs.Index.{index_from, index_of, GivesIndex};
 
 use crate::package::is_package;
 use crate::{Datasource, IndexError, Release};
-use rnv_base::{Folder, FolderError, List};
+use rnv_base::{DOCUMENT_BYTES, Folder, FolderError, List};
 use std::alloc::Global;
 use std::convert::{AsSlice, AsStr};
-
-// The most bytes that a document may have.
-const MOST_BYTES: usize = 67_108_864;
 
 /// Why the index of a folder gives no releases.
 #[derive(Clone, Copy, Debug, PartialEq, Eq)]
@@ -38,7 +36,7 @@ pub fn read_releases<O: Folder, S: Datasource>(
 ) -> Result<Option<List<Release>>, ReadIndexError>
     ensures index { O.tells → GivesIndex result (index_of (S.path_of source.now) (S.reading source.now) name.now (O.files folder.old)) }
     ensures unasked { ¬ IsPackageName name.now → (result ≡ Ok None) × (folder.new ≡ folder.old) }
-    ensures few { IfOk result (λ found. IfSome found (λ releases. length releases ≤ 50000)) }
+    ensures few { IfOk result (λ found. IfSome found (λ releases. length releases ≤ most_releases)) }
     ensures same { O.tells → (O.files folder.new ≡ O.files folder.old) }
     ensures cause { FaultsBy (O.faults folder.old) (O.faults folder.new) result ReadIndexError.FolderFault }
     ensures passed { PassesNone (O.faults folder.old) (O.faults folder.new) result ReadIndexError.FolderFault }
@@ -64,10 +62,10 @@ fn releases_in<S: Datasource>(
     bytes: &[u8],
 ) -> Result<Option<List<Release>>, ReadIndexError>
     ensures index { GivesIndex result (index_from (S.reading source.now) (Some bytes.now)) }
-    ensures few { IfOk result (λ found. IfSome found (λ releases. length releases ≤ 50000)) }
+    ensures few { IfOk result (λ found. IfSome found (λ releases. length releases ≤ most_releases)) }
     ensures told { result ≢ Err ReadIndexError.FolderFault }
 {
-    if bytes.len() > MOST_BYTES {
+    if bytes.len() as u64 > DOCUMENT_BYTES {
         return Err(ReadIndexError::TooLong);
     }
     match source.read(alloc, bytes) {

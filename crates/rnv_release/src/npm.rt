@@ -7,15 +7,12 @@ ghost use Rattle.rnv_release.specs.Npm.{names_of, npm_path, npm_reading, npm_rel
 ghost use Rattle.rnv_release.specs.Times.{AreRising, release_told, times_in, times_left};
 ghost use Rattle.rnv_release.specs.Parts.{releases_of_parts};
 
-use crate::json::read_json;
+use crate::json::read_value;
 use crate::times::Times;
 use crate::{Datasource, IndexError, Release};
-use rnv_base::{List, Text};
+use rnv_base::{List, MOST_RELEASES, Text};
 use serde_json::{Map, Value};
 use std::alloc::{AllocError, Global};
-
-// The most releases that a document may list.
-const MOST: usize = 50_000;
 
 /// An index of npm packages: `index/npm/NAME.json` is JSON (RFC 8259, as `serde_json` reads it): an
 /// object with an object `versions`, whose names are the releases in the order of their bytes, and
@@ -38,17 +35,13 @@ impl Datasource for NpmIndex {
     }
 
     fn read(&self, alloc: Global, bytes: &[u8]) -> Result<List<Release>, IndexError> {
-        let document = match read_json(alloc, bytes) {
-            Ok(Some(document)) => document,
-            Ok(None) => return Err(IndexError::BadIndex { line: 1 }),
-            Err(_) => return Err(IndexError::Memory),
-        };
+        let document = read_value(alloc, bytes, 1)?;
         let Some(Parts { versions, times }) = parts_of(alloc, document) else {
             return Err(IndexError::BadIndex { line: 1 });
         };
-        if versions.len() > MOST {
+        if versions.len() > MOST_RELEASES {
             return Err(IndexError::TooManyReleases {
-                number: MOST as u64,
+                number: MOST_RELEASES as u64,
             });
         }
         match releases(alloc, versions, times) {

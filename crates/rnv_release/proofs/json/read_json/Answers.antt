@@ -1,4 +1,4 @@
-use Rattle.std.proofs.Common.{ap, Some, sym}
+use Rattle.std.proofs.Common.{sym}
 use Rattle.rnv_release.proofs.Listing.{json-read, json-refused}
 use Rattle.rnv_release.proofs.json.read_json.Goals as goal
 

@@ -6,8 +6,8 @@ use Rattle.rnv_release.specs.Reading.{listed}
 use Rattle.rnv_release.proofs.Listing.{length-listed}
 use Rattle.rnv_release.proofs.npm.NpmIndexDatasource.read.Goals as goal
 
-pub returns-then-len-gt-MOST-clause-many : goal.returns-then-len-gt-MOST-clause-many
-returns-then-len-gt-MOST-clause-many c =
+pub returns-then-len-gt-MOST_RELEASES-clause-many : goal.returns-then-len-gt-MOST_RELEASES-clause-many
+returns-then-len-gt-MOST_RELEASES-clause-many c =
     let release = release_of (Some (object (members_view c.in-Some.times.entries))) in
     let releases = map release (names_of (members_view c.in-Some.versions.entries)) in
     let is : npm_reading c.args.bytes.now ≡ listed releases = search rules in
