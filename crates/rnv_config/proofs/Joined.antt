@@ -3,7 +3,7 @@ use Rattle.std.proofs.Common.{◌≡◌, ℕ, List, [], ◌∷◌, ◌++◌, Boo
 use Rattle.std.specs.Prelude.{option_map, if◌then◌else◌}
 use Rattle.std.proofs.lemmas.Slice.Eq.{bytes_eq-Decides}
 use Rattle.rnv_options.specs.Readings.{Each}
-use Rattle.rnv_options.specs.Table.{all_opts, name_of, opt_named}
+use Rattle.rnv_options.specs.Table.{all_opts, name_of, named_in, opt_named}
 use Rattle.rnv_options.specs.declared.opt.Opt.{Opt}
 use Rattle.rnv_options.specs.declared.opt.Opt.TheVariants.{AddLabels, AllowedVersions, BranchConcurrentLimit, BranchPrefix, CustomManagers, DependencyDashboard, DependencyDashboardApproval, Enabled, EnabledManagers, GroupName, GroupSlug, IgnoreDeps, IgnorePaths, Labels, MinimumReleaseAge, PackageRules, PostUpgradeTasks, PrConcurrentLimit, PrHourlyLimit, PrPriority, RangeStrategy, RebaseWhen, Schedule, SeparateMajorMinor, SeparateMinorPatch, Timezone, UpdateNotScheduled}
 use Rattle.rnv_options.specs.declared.setting.OptValue.{OptValue}
@@ -64,4 +64,47 @@ same a b e =
 -- the first value that is told for the option
 told_of : Opt → List ToldSetting → Option ToldValue
 told_of opt [] = None
-told_of opt (s ∷ rest) = cond (same_opt s.opt opt) (Some s.value) (told_of opt rest)
+told_of opt (s ∷ rest) = if same_opt opt s.opt then Some s.value else told_of opt rest
+
+told-if : (b : Bool) (x y : Option OptValue) → option_map told_value (if b then x else y) ≡ (if b then option_map told_value x else option_map told_value y)
+told-if true x y = refl
+told-if false x y = refl
+
+told-of : (opt : Opt) (settings : List Setting) → told_in opt settings ≡ told_of opt (map told_setting settings)
+unfolding told_of
+told-of opt [] = refl
+told-of opt (s ∷ rest) =
+    told-if (same_opt opt s.opt) (Some s.value) (value_in opt rest)
+    ∙ ap (λ (r : Option ToldValue). if same_opt opt s.opt then Some (told_value s.value) else r) (told-of opt rest)
+
+-- the value where there is such an option
+given : Option Opt → Option ToldValue → Option ToldValue
+given None value = None
+given (Some opt) value = value
+
+not-given : (found : Option Opt) → given found None ≡ None
+unfolding given
+not-given None = refl
+not-given (Some opt) = refl
+
+step : (opt first : Opt) (here : Bool) (value wanted : Option ToldValue) (rest : List ToldSetting) (found : Option Opt) → same_opt opt first ≡ here → (here ≡ true → value ≡ wanted) → told_of opt rest ≡ given found wanted →
+    told_of opt (setting_for first value ++ rest) ≡ given (if here then Some first else found) wanted
+unfolding told_of, given
+step opt first true None wanted rest found is same_value later =
+    let none : None ≡ wanted = same_value refl in
+    later ∙ sym (ap (given found) none) ∙ not-given found ∙ none
+step opt first false None wanted rest found is same_value later = later
+step opt first true (Some value) wanted rest found is same_value later = rw is (same_value refl)
+step opt first false (Some value) wanted rest found is same_value later = rw is later
+
+by-each : (value : Opt → Option ToldValue) (opt : Opt) (opts : List Opt) → told_of opt (settings_by value opts) ≡ given (named_in (name_of opt) opts) (value opt)
+unfolding told_of, given
+by-each value opt [] = refl
+by-each value opt (first ∷ opts) =
+    step opt first (same_opt opt first) (value first) (value opt) (settings_by value opts) (named_in (name_of opt) opts) refl
+    (λ e. ap value (sym (same opt first e))) (by-each value opt opts)
+
+pub by_option : (parent child settings : List Setting) → map told_setting settings ≡ merged_settings parent child → (opt : Opt) → told_in opt settings ≡ merged opt parent child
+unfolding given
+by_option parent child settings is opt =
+    told-of opt settings ∙ ap (told_of opt) is ∙ by-each (λ o. merged o parent child) opt all_opts ∙ ap (λ (found : Option Opt). given found (merged opt parent child)) (named opt)

@@ -18,7 +18,7 @@ same_opt a b = bytes_eq (name_of a) (name_of b)
 -- what the option is set to: the first that is
 abbrev pub value_in : Opt → List Setting → Option OptValue
 value_in opt [] = None
-value_in opt (s ∷ rest) = if same_opt s.opt opt then Some s.value else value_in opt rest
+value_in opt (s ∷ rest) = if same_opt opt s.opt then Some s.value else value_in opt rest
 
 -- the same, without what was built
 abbrev pub told_in : Opt → List Setting → Option ToldValue

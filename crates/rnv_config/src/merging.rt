@@ -25,7 +25,7 @@ impl Config {
     {
         let mut left = self.settings.as_slice();
         while let [setting, rest @ ..] = left {
-            if same_opt(setting.opt, opt) {
+            if same_opt(opt, setting.opt) {
                 return Some(&setting.value);
             }
             left = rest;
