@@ -4,7 +4,7 @@ use Rattle.serde_json.specs.View.{members_view}
 use Rattle.rnv_config.specs.Settings.{told_setting}
 use Rattle.rnv_config.specs.Texts.{with_settings}
 use Rattle.rnv_config.proofs.Shown.{text_of}
-use Rattle.rnv_config.proofs.text.Config.text.Goals as goal
+use Rattle.rnv_config.proofs.config.Config.text.Goals as goal
 
 pub returns : goal.returns
 returns c =
