@@ -1,6 +1,6 @@
 -- Two configurations as one: each option by itself, and what stays built.
 use Rattle.std.proofs.Common.{◌≡◌, ℕ, List, [], ◌∷◌, ◌++◌, Bool, true, false, Option, Some, None, cond, map, bytes_eq, refl, sym, ap, ◌∙◌, subst}
-use Rattle.std.specs.Prelude.{option_map, if◌then◌else◌}
+use Rattle.std.specs.Prelude.{IfSome, option_map, if◌then◌else◌}
 use Rattle.std.proofs.lemmas.Slice.Eq.{bytes_eq-Decides}
 use Rattle.rnv_options.specs.Readings.{Each}
 use Rattle.rnv_options.specs.Table.{all_opts, name_of, named_in, opt_named}
@@ -19,6 +19,15 @@ each-append P (x ∷ xs) ys all more = (all.0, each-append P xs ys all.1 more)
 
 pub each-both : {A : Type 0} (P : A → Type 0) (xs ys list : List A) → list ≡ xs ++ ys → Each P xs → Each P ys → Each P list
 each-both P xs ys list is all more = subst (Each P) (sym is) (each-append P xs ys all more)
+
+built-if : (b : Bool) (value : OptValue) (rest : Option OptValue) → IsValueBuilt value → IfSome rest IsValueBuilt → IfSome (if b then Some value else rest) IsValueBuilt
+built-if true value rest here there = here
+built-if false value rest here there = there
+
+-- what is set is built where all is
+pub built_in : (opt : Opt) (settings : List Setting) → Each IsSettingBuilt settings → IfSome (value_in opt settings) IsValueBuilt
+built_in opt [] all = tt
+built_in opt (s ∷ rest) all = built-if (same_opt opt s.opt) s.value (value_in opt rest) all.0 (built_in opt rest all.1)
 
 -- ---- an option has one name
 
@@ -89,7 +98,7 @@ not-given (Some opt) = refl
 
 step : (opt first : Opt) (here : Bool) (value wanted : Option ToldValue) (rest : List ToldSetting) (found : Option Opt) → same_opt opt first ≡ here → (here ≡ true → value ≡ wanted) → told_of opt rest ≡ given found wanted →
     told_of opt (setting_for first value ++ rest) ≡ given (if here then Some first else found) wanted
-unfolding told_of, given
+unfolding told_of given
 step opt first true None wanted rest found is same_value later =
     let none : None ≡ wanted = same_value refl in
     later ∙ sym (ap (given found) none) ∙ not-given found ∙ none
@@ -98,7 +107,7 @@ step opt first true (Some value) wanted rest found is same_value later = rw is (
 step opt first false (Some value) wanted rest found is same_value later = rw is later
 
 by-each : (value : Opt → Option ToldValue) (opt : Opt) (opts : List Opt) → told_of opt (settings_by value opts) ≡ given (named_in (name_of opt) opts) (value opt)
-unfolding told_of, given
+unfolding told_of given
 by-each value opt [] = refl
 by-each value opt (first ∷ opts) =
     step opt first (same_opt opt first) (value first) (value opt) (settings_by value opts) (named_in (name_of opt) opts) refl

@@ -74,7 +74,8 @@ fn config(alloc: Global, json: &str) -> Result<Config, Fail> {
 }
 
 // A parent, a child, and the text of both as one.
-const MERGES: &str = r#"{"ignoreDeps":["a"],"labels":["x"]}|{"ignoreDeps":["b"],"labels":["y"]}|{"ignoreDeps":["a","b"],"labels":["y"]}
+const MERGES: &str =
+    r#"{"ignoreDeps":["a"],"labels":["x"]}|{"ignoreDeps":["b"],"labels":["y"]}|{"ignoreDeps":["a","b"],"labels":["y"]}
 {}|{}|{}
 {"enabled":false,"groupName":"a"}|{"prPriority":-3}|{"enabled":false,"groupName":"a","prPriority":-3}
 {"addLabels":["a"],"enabled":true}|{"addLabels":null,"enabled":null}|{"addLabels":["a"],"enabled":null}
@@ -101,7 +102,8 @@ fn merges(rt: HostRuntime) -> Result<(), Fail> {
 }
 
 // A configuration, and its text.
-const TEXTS: &str = r#"{"updateNotScheduled":false,"timezone":"UTC","prHourlyLimit":0}|{"prHourlyLimit":0,"timezone":"UTC","updateNotScheduled":false}
+const TEXTS: &str =
+    r#"{"updateNotScheduled":false,"timezone":"UTC","prHourlyLimit":0}|{"prHourlyLimit":0,"timezone":"UTC","updateNotScheduled":false}
 {"labels":"x\"\u00e9\n","branchPrefix":"b/","schedule":[]}|{"branchPrefix":"b/","labels":["x\"é\n"],"schedule":[]}
 {"ignorePaths":["**/a/**","!/b/i"],"allowedVersions":"!/^2/"}|{"allowedVersions":"!/^2/","ignorePaths":["**/a/**","!/b/i"]}
 {"allowedVersions":"<2","minimumReleaseAge":"3 days","rangeStrategy":null}|{"allowedVersions":"<2","minimumReleaseAge":"3 days","rangeStrategy":null}
@@ -125,8 +127,18 @@ fn texts(rt: HostRuntime) -> Result<(), Fail> {
 fn gets(rt: HostRuntime) -> Result<(), Fail> {
     let alloc = rt.alloc();
     let config = config(alloc, r#"{"enabled":false,"timezone":"UTC"}"#)?.share(alloc)?;
-    assert!(rt; matches!(config.get(Opt::Enabled), Some(OptValue::Plain(Plain::Flag(false)))));
-    assert!(rt; matches!(config.get(Opt::Timezone), Some(OptValue::Plain(Plain::Word(_)))));
+    assert!(rt;
+        matches!(
+            config.get(Opt::Enabled),
+            Some(OptValue::Plain(Plain::Flag(false)))
+        )
+    );
+    assert!(rt;
+        matches!(
+            config.get(Opt::Timezone),
+            Some(OptValue::Plain(Plain::Word(_)))
+        )
+    );
     assert!(rt; config.get(Opt::Labels).is_none());
     Ok(())
 }

@@ -1,8 +1,8 @@
-ghost use Rattle.std.specs.Prelude.{◌≡◌, ◌++◌, map, option_copied, option_map, IfOk, IfSome};
+ghost use Rattle.std.specs.Prelude.{◌≡◌, ◌++◌, map, option_copied, option_map, IfOk, IfSome, OnOk};
 ghost use Rattle.rnv_pattern.specs.Patterns.{ArePatterns};
 ghost use Rattle.rnv_options.specs.Readings.{Each, IsBuilt, texts_set, told};
 ghost use Rattle.rnv_options.specs.declared.opt.Opt.{Opt as OptValues};
-ghost use Rattle.rnv_config.specs.Merged.{are_joined, is_joined, joined_plain, joined_value, later, merged, merged_settings, merged_value, same_opt, told_in, value_in};
+ghost use Rattle.rnv_config.specs.Merged.{are_joined, is_joined, joined_plain, joined_value, later, merged, merged_settings, merged_value, same_opt, setting_for, told_in, value_in};
 ghost use Rattle.rnv_config.specs.Settings.{IsSettingBuilt, IsValueBuilt, told_setting, told_value};
 
 use crate::Config;
@@ -156,6 +156,50 @@ fn merged_value(
     }
 }
 
+// The value of one option of two configurations as one.
+fn merged_at(
+    alloc: Global,
+    opt: Opt,
+    parent: &Config,
+    child: &Config,
+) -> Result<Option<OptValue>, AllocError>
+    ensures told { IfOk result (λ value. option_map told_value value ≡ merged opt parent.now.settings child.now.settings) }
+    ensures built { IfOk result (λ value. Each IsSettingBuilt parent.now.settings → Each IsSettingBuilt child.now.settings → IfSome value IsValueBuilt) }
+{
+    let joined = is_joined(opt.kind());
+    merged_value(alloc, joined, parent.get(opt), child.get(opt))
+}
+
+// Puts the option at the end where it has a value.
+fn add_setting(
+    settings: &mut List<Setting>,
+    opt: Opt,
+    value: Option<OptValue>,
+) -> Result<(), AllocError>
+    ensures told { OnOk result (map told_setting settings.new ≡ map told_setting settings.old ++ setting_for opt (option_map told_value value)) }
+    ensures built { OnOk result (Each IsSettingBuilt settings.old → IfSome value IsValueBuilt → Each IsSettingBuilt settings.new) }
+{
+    if let Some(value) = value {
+        settings.push(Setting { opt, value })?;
+    }
+    Ok(())
+}
+
+// Adds the option as the two configurations set it.
+fn add_merged(
+    alloc: Global,
+    settings: &mut List<Setting>,
+    opt: Opt,
+    parent: &Config,
+    child: &Config,
+) -> Result<(), AllocError>
+    ensures told { OnOk result (map told_setting settings.new ≡ map told_setting settings.old ++ setting_for opt (merged opt parent.now.settings child.now.settings)) }
+    ensures built { OnOk result (Each IsSettingBuilt parent.now.settings → Each IsSettingBuilt child.now.settings → Each IsSettingBuilt settings.old → Each IsSettingBuilt settings.new) }
+{
+    let value = merged_at(alloc, opt, parent, child)?;
+    add_setting(settings, opt, value)
+}
+
 /// The two configurations as one, option by option: the child's value where it sets the option, else
 /// the parent's. Of `addLabels`, `customManagers`, `ignoreDeps` and `packageRules` the parent's list and
 /// then the child's; of `postUpgradeTasks` each member by itself. Only memory can fail.
@@ -167,11 +211,7 @@ pub fn merge(alloc: Global, parent: &Config, child: &Config) -> Result<Config, A
     let mut settings = List::empty(alloc);
     let mut left: &[Opt] = &ALL;
     while let [opt, rest @ ..] = left {
-        let joined = is_joined(opt.kind());
-        let value = merged_value(alloc, joined, parent.get(*opt), child.get(*opt))?;
-        if let Some(value) = value {
-            settings.push(Setting { opt: *opt, value })?;
-        }
+        add_merged(alloc, &mut settings, *opt, parent, child)?;
         left = rest;
     }
     Ok(Config { settings })
