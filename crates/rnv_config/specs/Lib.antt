@@ -1,0 +1,3 @@
+pub mod Merged
+pub mod Settings
+pub mod Texts
