@@ -1,12 +1,13 @@
 //! The plan of a repository as a plain Rust program does it, over std alone and with no proofs: what
 //! `bench/plan` compares `renovate plan OWNER/NAME --now T` with. It reads the same files of the folder
-//! where it runs and prints the same plan. What is not built yet it refuses with status 15, and it is not
-//! as strict with what it reads.
+//! where it runs and prints the same plan. Of ranges it reads `^A.B.C` alone: what else it does not read it
+//! refuses with status 15, and it is not as strict with what it reads.
 
 use std::cmp::Ordering;
 use std::collections::{BTreeMap, BTreeSet};
 use std::io::Write;
 use std::process::exit;
+use std::rc::Rc;
 use std::{env, fs, io};
 
 const PLACES: [&str; 4] = [
@@ -26,8 +27,13 @@ fn main() {
     if plan != "plan" || flag != "--now" {
         refuse(2, "usage");
     }
-    let package = only_file(repo);
-    let dependencies = dependencies(&package);
+    let mut dependencies = Vec::new();
+    for path in paths(&format!("repos/{repo}")) {
+        dependencies.extend(dependencies_of(repo, path));
+    }
+    if dependencies.len() > 20_000 {
+        not_built("package.json");
+    }
     let names: BTreeSet<&str> = dependencies.iter().map(|it| it.name.as_str()).collect();
     let indexes: BTreeMap<&str, Vec<Release>> = names
         .into_iter()
@@ -37,7 +43,7 @@ fn main() {
     for dependency in &dependencies {
         for update in updates(dependency, indexes.get(dependency.name.as_str())) {
             branches
-                .entry(branch(&dependency.name, update.version.numbers[0]))
+                .entry(branch(&dependency.name, update.major))
                 .or_default()
                 .push(update);
         }
@@ -73,25 +79,47 @@ fn not_built(path: &str) -> ! {
 
 // ---- the repository's file
 
-fn only_file(repo: &str) -> String {
-    let folder = format!("repos/{repo}");
-    let files = fs::read_dir(&folder).map_or(0, |entries| entries.count());
-    match fs::read_to_string(format!("{folder}/package.json")) {
-        Ok(text) if files == 1 && text.len() <= 1_048_576 => text,
-        _ => not_built("package.json"),
+// The places of all files below the folder, by name.
+fn paths(top: &str) -> Vec<String> {
+    let mut found = Vec::new();
+    let mut folders = vec![String::new()];
+    while let Some(folder) = folders.pop() {
+        let Ok(entries) = fs::read_dir(format!("{top}/{folder}")) else {
+            not_built("package.json");
+        };
+        for entry in entries.flatten() {
+            let path = format!("{folder}{}", entry.file_name().to_string_lossy());
+            if entry.file_type().is_ok_and(|it| it.is_dir()) {
+                folders.push(format!("{path}/"));
+            } else {
+                found.push(path);
+            }
+        }
     }
+    found.sort();
+    found
 }
 
 struct Dependency {
+    path: Rc<str>,
     name: String,
     value: String,
     version: Version,
+    is_caret: bool,
 }
 
-fn dependencies(package: &str) -> Vec<Dependency> {
-    let Some(Json::Object(members)) = json(package.as_bytes()) else {
+fn dependencies_of(repo: &str, path: String) -> Vec<Dependency> {
+    if path.rsplit('/').next() != Some("package.json") {
+        not_built(&path);
+    }
+    let package = match fs::read(format!("repos/{repo}/{path}")) {
+        Ok(bytes) if bytes.len() <= 1_048_576 => bytes,
+        _ => not_built(&path),
+    };
+    let Some(Json::Object(members)) = json(&package) else {
         return Vec::new();
     };
+    let path: Rc<str> = path.into();
     let mut found = Vec::new();
     for (place, inside) in members {
         let Json::Object(inside) = inside else {
@@ -101,32 +129,32 @@ fn dependencies(package: &str) -> Vec<Dependency> {
             found.extend(
                 inside
                     .into_iter()
-                    .filter_map(|(name, value)| dependency(name, value)),
+                    .filter_map(|(name, value)| dependency(&path, name, value)),
             );
         }
-    }
-    if found.len() > 20_000 {
-        not_built("package.json");
     }
     found
 }
 
-fn dependency(name: String, value: Json) -> Option<Dependency> {
+fn dependency(path: &Rc<str>, name: String, value: Json) -> Option<Dependency> {
     let Json::Text(value) = value else {
         return None;
     };
     let plain = value.trim_matches(' ');
+    let is_caret = plain.starts_with('^');
     let plain = plain
-        .strip_prefix('=')
+        .strip_prefix(['^', '='])
         .unwrap_or(plain)
         .trim_start_matches(' ');
     match version(plain.strip_prefix('v').unwrap_or(plain)) {
         Some(version) => Some(Dependency {
+            path: path.clone(),
             name,
             value,
             version,
+            is_caret,
         }),
-        None => not_built("package.json"),
+        None => not_built(path),
     }
 }
 
@@ -493,7 +521,7 @@ enum Kind {
 struct Update<'a> {
     dependency: &'a Dependency,
     value: String,
-    version: Version,
+    major: u64,
     kind: Kind,
 }
 
@@ -502,16 +530,50 @@ struct Candidate<'a> {
     version: Version,
 }
 
+// Whether `^` before the first version allows the second one.
+fn is_in_caret(low: &Version, version: &Version) -> bool {
+    let (low_numbers, numbers) = (&low.numbers, &version.numbers);
+    let fixed = low_numbers
+        .iter()
+        .take(2)
+        .take_while(|it| **it == 0)
+        .count()
+        + 1;
+    low_numbers[..fixed] == numbers[..fixed]
+        && compare(low, version) != Ordering::Greater
+        && (version.pre.is_empty() || !low.pre.is_empty() && low_numbers == numbers)
+}
+
+impl Dependency {
+    fn takes(&self, version: &Version) -> bool {
+        self.is_caret && is_in_caret(&self.version, version)
+    }
+}
+
 fn updates<'a>(dependency: &'a Dependency, releases: Option<&Vec<Release>>) -> Vec<Update<'a>> {
-    let start = &dependency.version;
+    let live: Vec<Candidate> = releases
+        .into_iter()
+        .flatten()
+        .filter_map(candidate)
+        .collect();
+    let current = if dependency.is_caret {
+        let inside = live
+            .iter()
+            .map(|it| &it.version)
+            .filter(|it| dependency.takes(it));
+        inside.max_by(|a, b| compare(a, b))
+    } else {
+        Some(&dependency.version)
+    };
+    let Some(start) = current else {
+        return Vec::new();
+    };
     let (mut rest, mut major) = (None, None);
-    for release in releases.into_iter().flatten() {
-        let text = release.text.as_str();
-        let Some(version) = version(text.strip_prefix(['v', '=']).unwrap_or(text)) else {
-            continue;
-        };
-        if compare(start, &version) != Ordering::Less
+    for next in &live {
+        let version = &next.version;
+        if compare(start, version) != Ordering::Less
             || !version.pre.is_empty() && start.pre.is_empty()
+            || dependency.takes(version)
         {
             continue;
         }
@@ -520,16 +582,22 @@ fn updates<'a>(dependency: &'a Dependency, releases: Option<&Vec<Release>>) -> V
         } else {
             &mut major
         };
-        take_greater(best, Candidate { text, version });
+        take_greater(best, next);
     }
     [rest, major]
         .into_iter()
         .flatten()
-        .map(|it| update(dependency, it))
+        .map(|it| update(dependency, start, it))
         .collect()
 }
 
-fn take_greater<'a>(best: &mut Option<Candidate<'a>>, next: Candidate<'a>) {
+fn candidate(release: &Release) -> Option<Candidate<'_>> {
+    let text = release.text.as_str();
+    let version = version(text.strip_prefix(['v', '=']).unwrap_or(text))?;
+    Some(Candidate { text, version })
+}
+
+fn take_greater<'a>(best: &mut Option<&'a Candidate<'a>>, next: &'a Candidate<'a>) {
     match best {
         Some(best)
             if compare(&best.version, &next.version)
@@ -539,8 +607,8 @@ fn take_greater<'a>(best: &mut Option<Candidate<'a>>, next: Candidate<'a>) {
     }
 }
 
-fn update<'a>(dependency: &'a Dependency, chosen: Candidate) -> Update<'a> {
-    let (old, new) = (&dependency.version, chosen.version);
+fn update<'a>(dependency: &'a Dependency, old: &Version, chosen: &Candidate) -> Update<'a> {
+    let new = &chosen.version;
     let kind = if old.numbers[0] != new.numbers[0] {
         Kind::Major
     } else if old.numbers[1] != new.numbers[1] {
@@ -558,7 +626,7 @@ fn update<'a>(dependency: &'a Dependency, chosen: Candidate) -> Update<'a> {
         }
     }
     let value = &dependency.value;
-    let front = value.len() - value.trim_start_matches([' ', '=', 'v']).len();
+    let front = value.len() - value.trim_start_matches([' ', '^', '=', 'v']).len();
     let spaces = value.len() - value.trim_end_matches(' ').len();
     let value = format!(
         "{}{text}{}",
@@ -568,7 +636,7 @@ fn update<'a>(dependency: &'a Dependency, chosen: Candidate) -> Update<'a> {
     Update {
         dependency,
         value,
-        version: new,
+        major: first,
         kind,
     }
 }
@@ -604,9 +672,11 @@ fn text(now: &str, items: &[(Kind, String, Vec<Update>)]) -> String {
                 Kind::Minor => "minor",
                 Kind::Major => "major",
             };
-            let Dependency { name, value, .. } = update.dependency;
+            let Dependency {
+                path, name, value, ..
+            } = update.dependency;
             text.push_str(&format!(
-                "package.json {name} {value} -> {} ({kind}) {branch}\n",
+                "{path} {name} {value} -> {} ({kind}) {branch}\n",
                 update.value
             ));
         }
