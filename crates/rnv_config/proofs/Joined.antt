@@ -25,7 +25,7 @@ after-wrong {A} {E} join a one rest why e = ap (λ (x : Result A E). after join 
 
 -- nothing was said so far
 pub after-nothing : {A E : Type 0} (join : A → A → A) (nothing : A) → Joins join nothing → (start : A) → start ≡ nothing → (r : Result A E) → r ≡ after join start r
-after-nothing {A} {E} join nothing laws start e (Ok others) = ap (λ (a : A). Ok {T = A} {E = E} a) (sym (laws.before others) ∙ ap (λ (a : A). join a others) (sym e))
+after-nothing {A} {E} join nothing laws start e (Ok others) = ap Ok (sym (laws.before others) ∙ ap (λ (a : A). join a others) (sym e))
 after-nothing join nothing laws start e (Err why) = refl
 
 -- ---- members
