@@ -1,3 +1,4 @@
 pub mod Bytes
+pub mod Grown
 pub mod Joined
 pub mod Told
