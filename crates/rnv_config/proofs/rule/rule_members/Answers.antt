@@ -23,13 +23,13 @@ loop-name-preserved g c =
     let before = c.loop-name.invariant in
     record {
       asks = asks_then _ _ _ _ _ _ _ _ _ before.asks c.in-Ok.ensures.asks;
-      built = c.in_ok-join.ensures.built before.built c.in-Ok.ensures.built;
+      built = c.in_ok-join-in-Ok.ensures.built before.built c.in-Ok.ensures.built;
       tells = λ wrong agrees.
           let first = agrees_first wrong _ _ _ _ _ _ _ _ _ before.asks c.in-Ok.ensures.asks agrees in
           let later = agrees_later wrong _ _ _ _ _ _ _ _ _ before.asks c.in-Ok.ensures.asks agrees in
           let says = ap (λ (n : List ℕ). rule_member wrong n (view c.in-Some.value.now)) (sym c.as_str.ensures.value) ∙ c.in-Ok.ensures.tells wrong later in
           members-step joined_rule empty_rule rule_joins (rule_member wrong) c.loop-name.left c.next.new.self c.in-Some.name.now c.in-Some.value.now
-          (told_rule_read c.loop-name.read) (told_rule_read c.in-Ok.more) (told_rule_read c.join.new.self) _ c.in-Some.ensures.steps (before.tells wrong first) says c.in_ok-join.ensures.told;
+          (told_rule_read c.loop-name.read) (told_rule_read c.in-Ok.more) (told_rule_read c.join.new.self) _ c.in-Some.ensures.steps (before.tells wrong first) says c.in_ok-join-in-Ok.ensures.told;
     }
 
 pub returns-in-Err-clause-tells : goal.returns-in-Err-clause-tells

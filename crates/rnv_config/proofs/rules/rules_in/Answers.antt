@@ -27,13 +27,13 @@ loop-count-preserved g c =
     let first_left = cut items i c.index-items-count.result c.index-items-count.is c.loop-count-test.true in
     record {
       asks = asks_then _ _ _ _ _ _ _ _ _ before.asks c.in-Ok.ensures.asks;
-      built = c.in_ok-join.ensures.built before.built c.in-Ok.ensures.built;
+      built = c.in_ok-join-in-Ok.ensures.built before.built c.in-Ok.ensures.built;
       within = omega (arith, c.loop-count-test.true);
       tells = λ wrong agrees.
           let first = agrees_first wrong _ _ _ _ _ _ _ _ _ before.asks c.in-Ok.ensures.asks agrees in
           let later = agrees_later wrong _ _ _ _ _ _ _ _ _ before.asks c.in-Ok.ensures.asks agrees in
           items-step joined_rules no_rules rules_join (rule_of wrong) (i + 1) (drop i items) (drop (i + 1) items) c.index-items-count.result
-          (told_rules_read c.loop-count.read) (told_rules_read c.in-Ok.more) (told_rules_read c.join.new.self) _ first_left (before.tells wrong first) (c.in-Ok.ensures.tells wrong later) c.in_ok-join.ensures.told;
+          (told_rules_read c.loop-count.read) (told_rules_read c.in-Ok.more) (told_rules_read c.join.new.self) _ first_left (before.tells wrong first) (c.in-Ok.ensures.tells wrong later) c.in_ok-join-in-Ok.ensures.told;
     }
 
 pub returns-in-Err-clause-tells : goal.returns-in-Err-clause-tells
