@@ -1,119 +1,81 @@
--- Two configurations as one: each option by itself, and what stays built.
-use Rattle.std.proofs.Common.{◌≡◌, ℕ, List, [], ◌∷◌, ◌++◌, Bool, true, false, Option, Some, None, cond, map, bytes_eq, refl, sym, ap, ◌∙◌, subst}
-use Rattle.std.specs.Prelude.{IfSome, option_map, if◌then◌else◌}
-use Rattle.std.proofs.lemmas.Slice.Eq.{bytes_eq-Decides}
-use Rattle.rnv_options.specs.Readings.{Each}
-use Rattle.rnv_options.specs.Table.{all_opts, name_of, named_in, opt_named}
-use Rattle.rnv_options.specs.declared.opt.Opt.{Opt}
-use Rattle.rnv_options.specs.declared.opt.Opt.TheVariants.{AddLabels, AllowedVersions, BranchConcurrentLimit, BranchPrefix, CustomManagers, DependencyDashboard, DependencyDashboardApproval, Enabled, EnabledManagers, GroupName, GroupSlug, IgnoreDeps, IgnorePaths, Labels, MinimumReleaseAge, PackageRules, PostUpgradeTasks, PrConcurrentLimit, PrHourlyLimit, PrPriority, RangeStrategy, RebaseWhen, Schedule, SeparateMajorMinor, SeparateMinorPatch, Timezone, UpdateNotScheduled}
-use Rattle.rnv_options.specs.declared.setting.OptValue.{OptValue}
-use Rattle.rnv_options.specs.declared.setting.Setting.{Setting}
-use Rattle.rnv_config.specs.Merged.{merged, merged_settings, same_opt, setting_for, settings_by, told_in, value_in}
-use Rattle.rnv_config.specs.Settings.{IsSettingBuilt, IsValueBuilt, ToldSetting, ToldValue, told_setting, told_value}
+-- What members and items say, one after another.
+use Rattle.std.proofs.Common.{◌≡◌, ℕ, ◌+◌, List, [], ◌∷◌, Ok, Err, Result, String, Global, string_bytes, refl, sym, ap, ◌∙◌}
+use Rattle.serde_json.specs.Data.{Data}
+use Rattle.serde_json.specs.View.{items_view, members_view, view}
+use Rattle.serde_json.specs.declared.value.Value.{Value}
+use Rattle.rnv_config.specs.Members.{and_then, items_say, members_say}
 
--- ---- what stays built
+-- what holds of sayings that are joined
+pub record Joins {A : Type 0} (join : A → A → A) (nothing : A) : Type 0 where
+  pub assoc : (a b c : A) → join a (join b c) ≡ join (join a b) c
+  pub before : (a : A) → join nothing a ≡ a
+  pub behind : (a : A) → join a nothing ≡ a
 
-pub each-append : {A : Type 0} (P : A → Type 0) (xs ys : List A) → Each P xs → Each P ys → Each P (xs ++ ys)
-each-append P [] ys all more = more
-each-append P (x ∷ xs) ys all more = (all.0, each-append P xs ys all.1 more)
+-- what was said, and then what is left to say
+abbrev pub after : {A E : Type 0} → (A → A → A) → A → Result A E → Result A E
+after join first (Ok others) = Ok (join first others)
+after join first (Err why) = Err why
 
-pub each-both : {A : Type 0} (P : A → Type 0) (xs ys list : List A) → list ≡ xs ++ ys → Each P xs → Each P ys → Each P list
-each-both P xs ys list is all more = subst (Each P) (sym is) (each-append P xs ys all more)
+after-more : {A E : Type 0} (join : A → A → A) (nothing : A) → Joins join nothing → (a b : A) (one rest : Result A E) → one ≡ Ok b → after join a (and_then join one rest) ≡ after join (join a b) rest
+after-more {A} {E} join nothing laws a b one (Ok others) e = ap (λ (x : Result A E). after join a (and_then join x (Ok others))) e ∙ ap Ok (laws.assoc a b others)
+after-more {A} {E} join nothing laws a b one (Err why) e = ap (λ (x : Result A E). after join a (and_then join x (Err why))) e
 
-built-if : (b : Bool) (value : OptValue) (rest : Option OptValue) → IsValueBuilt value → IfSome rest IsValueBuilt → IfSome (if b then Some value else rest) IsValueBuilt
-built-if true value rest here there = here
-built-if false value rest here there = there
+after-wrong : {A E : Type 0} (join : A → A → A) (a : A) (one rest : Result A E) (why : E) → one ≡ Err why → after join a (and_then join one rest) ≡ Err why
+after-wrong {A} {E} join a one rest why e = ap (λ (x : Result A E). after join a (and_then join x rest)) e
 
--- what is set is built where all is
-pub built_in : (opt : Opt) (settings : List Setting) → Each IsSettingBuilt settings → IfSome (value_in opt settings) IsValueBuilt
-built_in opt [] all = tt
-built_in opt (s ∷ rest) all = built-if (same_opt opt s.opt) s.value (value_in opt rest) all.0 (built_in opt rest all.1)
+-- nothing was said so far
+pub after-nothing : {A E : Type 0} (join : A → A → A) (nothing : A) → Joins join nothing → (start : A) → start ≡ nothing → (r : Result A E) → r ≡ after join start r
+after-nothing {A} {E} join nothing laws start e (Ok others) = ap Ok (sym (laws.before others) ∙ ap (λ (a : A). join a others) (sym e))
+after-nothing join nothing laws start e (Err why) = refl
 
--- ---- an option has one name
+-- ---- members
 
-named : (opt : Opt) → opt_named (name_of opt) ≡ Some opt
-named AddLabels = refl
-named AllowedVersions = refl
-named BranchConcurrentLimit = refl
-named BranchPrefix = refl
-named CustomManagers = refl
-named DependencyDashboard = refl
-named DependencyDashboardApproval = refl
-named Enabled = refl
-named EnabledManagers = refl
-named GroupName = refl
-named GroupSlug = refl
-named IgnoreDeps = refl
-named IgnorePaths = refl
-named Labels = refl
-named MinimumReleaseAge = refl
-named PackageRules = refl
-named PostUpgradeTasks = refl
-named PrConcurrentLimit = refl
-named PrHourlyLimit = refl
-named PrPriority = refl
-named RangeStrategy = refl
-named RebaseWhen = refl
-named Schedule = refl
-named SeparateMajorMinor = refl
-named SeparateMinorPatch = refl
-named Timezone = refl
-named UpdateNotScheduled = refl
+pub members-step : {A E : Type 0} (join : A → A → A) (nothing : A) → Joins join nothing → (says : List ℕ → Data → Result A E)
+    → (left later : List (String Global × Value)) (name : String Global) (value : Value) (old more new : A) (all : Result A E)
+    → left ≡ (name, value) ∷ later → all ≡ after join old (members_say join nothing says (members_view left))
+    → says (string_bytes name) (view value) ≡ Ok more → new ≡ join old more
+    → all ≡ after join new (members_say join nothing says (members_view later))
+members-step {A} {E} join nothing laws says left later name value old more new all e whole said grown =
+    whole ∙ ap (λ (es : List (String Global × Value)). after join old (members_say join nothing says (members_view es))) e
+    ∙ after-more join nothing laws old more (says (string_bytes name) (view value)) (members_say join nothing says (members_view later)) said
+    ∙ ap (λ (a : A). after join a (members_say join nothing says (members_view later))) (sym grown)
 
-inside : {A : Type 0} {x y : A} → Some x ≡ Some y → x ≡ y
-inside e = cc
+pub members-stop : {A E : Type 0} (join : A → A → A) (nothing : A) (says : List ℕ → Data → Result A E)
+    → (left later : List (String Global × Value)) (name : String Global) (value : Value) (old : A) (all : Result A E)
+    → left ≡ (name, value) ∷ later → all ≡ after join old (members_say join nothing says (members_view left))
+    → (why : E) → says (string_bytes name) (view value) ≡ Err why → all ≡ Err why
+members-stop {A} {E} join nothing says left later name value old all e whole why said =
+    whole ∙ ap (λ (es : List (String Global × Value)). after join old (members_say join nothing says (members_view es))) e
+    ∙ after-wrong join old (says (string_bytes name) (view value)) (members_say join nothing says (members_view later)) why said
 
-same : (a b : Opt) → same_opt a b ≡ true → a ≡ b
-same a b e =
-    let names : name_of a ≡ name_of b = (bytes_eq-Decides (name_of a) (name_of b)).0 e in
-    inside (sym (named a) ∙ ap opt_named names ∙ named b)
+pub members-end : {A E : Type 0} (join : A → A → A) (nothing : A) → Joins join nothing → (says : List ℕ → Data → Result A E)
+    → (left : List (String Global × Value)) (old : A) (all : Result A E)
+    → left ≡ [] → all ≡ after join old (members_say join nothing says (members_view left)) → all ≡ Ok old
+members-end {A} {E} join nothing laws says left old all e whole =
+    whole ∙ ap (λ (es : List (String Global × Value)). after join old (members_say join nothing says (members_view es))) e ∙ ap Ok (laws.behind old)
 
--- ---- option by option
+-- ---- items
 
--- the first value that is told for the option
-told_of : Opt → List ToldSetting → Option ToldValue
-told_of opt [] = None
-told_of opt (s ∷ rest) = if same_opt opt s.opt then Some s.value else told_of opt rest
+pub items-step : {A E : Type 0} (join : A → A → A) (nothing : A) → Joins join nothing → (says : ℕ → Data → Result A E)
+    → (n : ℕ) (left later : List Value) (value : Value) (old more new : A) (all : Result A E)
+    → left ≡ value ∷ later → all ≡ after join old (items_say join nothing says n (items_view left))
+    → says n (view value) ≡ Ok more → new ≡ join old more
+    → all ≡ after join new (items_say join nothing says (n + 1) (items_view later))
+items-step {A} {E} join nothing laws says n left later value old more new all e whole said grown =
+    whole ∙ ap (λ (vs : List Value). after join old (items_say join nothing says n (items_view vs))) e
+    ∙ after-more join nothing laws old more (says n (view value)) (items_say join nothing says (n + 1) (items_view later)) said
+    ∙ ap (λ (a : A). after join a (items_say join nothing says (n + 1) (items_view later))) (sym grown)
 
-told-if : (b : Bool) (x y : Option OptValue) → option_map told_value (if b then x else y) ≡ (if b then option_map told_value x else option_map told_value y)
-told-if true x y = refl
-told-if false x y = refl
+pub items-stop : {A E : Type 0} (join : A → A → A) (nothing : A) (says : ℕ → Data → Result A E)
+    → (n : ℕ) (left later : List Value) (value : Value) (old : A) (all : Result A E)
+    → left ≡ value ∷ later → all ≡ after join old (items_say join nothing says n (items_view left))
+    → (why : E) → says n (view value) ≡ Err why → all ≡ Err why
+items-stop {A} {E} join nothing says n left later value old all e whole why said =
+    whole ∙ ap (λ (vs : List Value). after join old (items_say join nothing says n (items_view vs))) e
+    ∙ after-wrong join old (says n (view value)) (items_say join nothing says (n + 1) (items_view later)) why said
 
-told-of : (opt : Opt) (settings : List Setting) → told_in opt settings ≡ told_of opt (map told_setting settings)
-unfolding told_of
-told-of opt [] = refl
-told-of opt (s ∷ rest) =
-    told-if (same_opt opt s.opt) (Some s.value) (value_in opt rest)
-    ∙ ap (λ (r : Option ToldValue). if same_opt opt s.opt then Some (told_value s.value) else r) (told-of opt rest)
-
--- the value where there is such an option
-given : Option Opt → Option ToldValue → Option ToldValue
-given None value = None
-given (Some opt) value = value
-
-not-given : (found : Option Opt) → given found None ≡ None
-unfolding given
-not-given None = refl
-not-given (Some opt) = refl
-
-step : (opt first : Opt) (here : Bool) (value wanted : Option ToldValue) (rest : List ToldSetting) (found : Option Opt) → same_opt opt first ≡ here → (here ≡ true → value ≡ wanted) → told_of opt rest ≡ given found wanted →
-    told_of opt (setting_for first value ++ rest) ≡ given (if here then Some first else found) wanted
-unfolding told_of given
-step opt first true None wanted rest found is same_value later =
-    let none : None ≡ wanted = same_value refl in
-    later ∙ sym (ap (given found) none) ∙ not-given found ∙ none
-step opt first false None wanted rest found is same_value later = later
-step opt first true (Some value) wanted rest found is same_value later = rw is (same_value refl)
-step opt first false (Some value) wanted rest found is same_value later = rw is later
-
-by-each : (value : Opt → Option ToldValue) (opt : Opt) (opts : List Opt) → told_of opt (settings_by value opts) ≡ given (named_in (name_of opt) opts) (value opt)
-unfolding told_of given
-by-each value opt [] = refl
-by-each value opt (first ∷ opts) =
-    step opt first (same_opt opt first) (value first) (value opt) (settings_by value opts) (named_in (name_of opt) opts) refl
-    (λ e. ap value (sym (same opt first e))) (by-each value opt opts)
-
-pub by_option : (parent child settings : List Setting) → map told_setting settings ≡ merged_settings parent child → (opt : Opt) → told_in opt settings ≡ merged opt parent child
-unfolding given
-by_option parent child settings is opt =
-    told-of opt settings ∙ ap (told_of opt) is ∙ by-each (λ o. merged o parent child) opt all_opts ∙ ap (λ (found : Option Opt). given found (merged opt parent child)) (named opt)
+pub items-end : {A E : Type 0} (join : A → A → A) (nothing : A) → Joins join nothing → (says : ℕ → Data → Result A E)
+    → (n : ℕ) (left : List Value) (old : A) (all : Result A E)
+    → left ≡ [] → all ≡ after join old (items_say join nothing says n (items_view left)) → all ≡ Ok old
+items-end {A} {E} join nothing laws says n left old all e whole =
+    whole ∙ ap (λ (vs : List Value). after join old (items_say join nothing says n (items_view vs))) e ∙ ap Ok (laws.behind old)

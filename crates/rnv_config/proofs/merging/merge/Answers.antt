@@ -2,7 +2,7 @@ use Rattle.std.proofs.Common.{◌≡◌, ◌++◌, ◌<◌, List, [], ◌∷◌,
 use Rattle.rnv_options.specs.declared.opt.Opt.{Opt}
 use Rattle.rnv_config.specs.Merged.{merged, merged_settings, settings_by}
 use Rattle.rnv_config.specs.Settings.{told_setting}
-use Rattle.rnv_config.proofs.Joined.{by_option}
+use Rattle.rnv_config.proofs.ByOption.{by_option}
 use Rattle.rnv_config.proofs.merging.merge.Goals as goal
 
 none-left : (opts : List Opt) → length opts < 1 → opts ≡ []

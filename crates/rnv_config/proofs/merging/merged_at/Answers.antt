@@ -3,7 +3,7 @@ use Rattle.std.specs.Prelude.{IfSome}
 use Rattle.std.proofs.lemmas.Result.{IfOk-weaker}
 use Rattle.rnv_options.specs.declared.setting.OptValue.{OptValue}
 use Rattle.rnv_config.specs.Settings.{IsValueBuilt}
-use Rattle.rnv_config.proofs.Joined.{built_in}
+use Rattle.rnv_config.proofs.ByOption.{built_in}
 use Rattle.rnv_config.proofs.merging.merged_at.Goals as goal
 
 pub returns-clause-built : goal.returns-clause-built
