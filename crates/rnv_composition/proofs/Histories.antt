@@ -77,7 +77,7 @@ module _ (files : List NamedFile) (name : List ℕ) (moment : ℕ) (start : List
   finished_by c is reads done =
       done_of files name moment c is (HasFinished store_bytes c.sight.seen c.sight.entry c.sight.exit name moment start first g) done (is.ends.runs.finished start first g 0 is.folder_told is.disk_told (begun_in c is) reads)
 
-  pub finished_edited : (image : Image) (entry exit : Past) (text : List ℕ) → HasFinished store_bytes image entry exit name moment start first g text → ArePutEdited files first.files W
+  pub finished_edited : (image : Image) (entry exit : Past) (text : List ℕ) → HasFinished store_bytes image entry exit name moment start first g text → ArePutEdited files moment first.files W
   finished_edited image entry exit text has =
       put_edited files moment first g begun.is_given
       (fit_stored files name moment store_bytes image start (take has.finished.count W) first g begun (subst (λ (ws : List Write). IsStored store_bytes image ws) has.finished.found has.stored))
