@@ -1,23 +1,24 @@
 -- What is chosen by going through the releases from the greatest on.
 use Rattle.std.proofs.Common.{◌≡◌, ◌⊎◌, ℕ, zero, suc, ◌<◌, Bool, true, false, List, [], ◌∷◌, Option, Some, None, length, drop, get_or, ◌+◌, ◌≤◌, refl, sym, subst, ◌∙◌, ap, inl, inr, arith}
-use Rattle.std.specs.Prelude.{IsPermutation, not, option_map, if◌then◌else◌}
+use Rattle.std.specs.Prelude.{not, ◌&&◌, option_map, if◌then◌else◌}
 use Rattle.std.specs.Cmp.{IsTotalOrder}
-use Rattle.std.specs.List.{Contains, filter}
+use Rattle.std.specs.List.{Contains}
 use Rattle.std.specs.Ordering.{is_gt}
 use Rattle.std.proofs.lemmas.Bool.{cases_Bool}
 use Rattle.std.proofs.lemmas.List.{at_drop_all, at_drop_more}
-use Rattle.std.proofs.lemmas.List.Sorted.{Contains-permutation, IsPermutation-sym}
 use Rattle.rnv_version.specs.Numbering.{Numbering}
+use Rattle.rnv_pick.specs.declared.allowance.Allowance.{Allowance}
 use Rattle.rnv_pick.specs.declared.bucket.Bucket.{Bucket}
 use Rattle.rnv_pick.specs.declared.choice.Choice.{Choice}
+use Rattle.rnv_pick.specs.Allowing.{admits, allowance_of}
 use Rattle.rnv_pick.specs.Buckets.{is_in}
-use Rattle.rnv_pick.specs.Candidates.{Aim, Offer, is_wanted, kind_of, offer_cmp}
-use Rattle.rnv_pick.specs.Choices.{InBucket, IsChosen, IsPendingChoice, IsReady, IsReadyChoice, choice_of, chosen_from, chosen_next, first_of, is_old_enough, judged, offered}
+use Rattle.rnv_pick.specs.Candidates.{Aim, Offer, is_above, kind_of, offer_cmp}
+use Rattle.rnv_pick.specs.Choices.{InBucket, IsChosen, IsPendingChoice, IsReady, IsReadyChoice, choice_of, chosen_from, chosen_next, first_of, is_offered, is_old_enough, judged, offered}
 use Rattle.rnv_pick.specs.Greatest.{IsFalling}
 use Rattle.rnv_pick.specs.Listing.{Listed, listed_cmp, listed_total}
 use Rattle.rnv_pick.specs.Options.{Options}
 use Rattle.rnv_pick.proofs.Falling.{first_greatest}
-use Rattle.rnv_pick.proofs.Kept.{contains_cases, contains_first, contains_later, kept, kept_among, kept_passes, no_element}
+use Rattle.rnv_pick.proofs.Among.{contains_cases, contains_first, contains_later, no_element}
 
 -- what is asked for
 pub record Asked (V R : Type 0) : Type 0 where
@@ -26,12 +27,16 @@ pub record Asked (V R : Type 0) : Type 0 where
   pub moment : ℕ
   pub aim : Aim V
   pub b : Bucket
+  pub allowance : Allowance R
 
 abbrev pub from : {V R : Type 0} → Asked V R → Option Choice → List (Listed V) → Option Choice
-from k top cs = chosen_from k.n k.o k.moment k.aim k.b top cs
+from k top cs = chosen_from k.n k.o k.moment k.aim k.b k.allowance top cs
 
 abbrev at : {V R : Type 0} → Asked V R → Listed V → Option Choice
-at k c = offered k.n k.o k.moment k.aim k.b c
+at k c = offered k.n k.o k.moment k.aim k.b k.allowance c
+
+abbrev offers : {V R : Type 0} → Asked V R → Listed V → Bool
+offers k c = is_offered k.n k.aim k.b k.allowance c
 
 abbrev offer : {V : Type 0} → Listed V → List ℕ → Offer V
 offer c text = record { listed = c; new_value = text }
@@ -42,9 +47,9 @@ new_text k c = k.n.new_text k.aim.options.strategy k.aim.dep.value c.release.tex
 abbrev is_old : {V R : Type 0} → Asked V R → Offer V → Bool
 is_old k c = is_old_enough k.n k.o k.moment k.aim c
 
--- a release of the bucket and its new text
+-- a release that is wanted and of the bucket, and its new text
 record Fits {V R : Type 0} (k : Asked V R) (c : Offer V) : Type 0 where
-  inside : is_in k.b (kind_of k.n k.aim c.listed) ≡ true
+  inside : offers k c.listed ≡ true
   text : new_text k c.listed ≡ Some c.new_value
 
 -- ---- one release
@@ -57,15 +62,15 @@ record Has {V R : Type 0} (k : Asked V R) (c : Listed V) : Type 0 where
 abbrev HasNone : {V R : Type 0} → Asked V R → Listed V → Type 0
 HasNone {V} k c = (at k c ≡ None) × ((d : Offer V) → d.listed ≡ c → ¬ Fits k d)
 
-inside_case : {V R : Type 0} (k : Asked V R) (c : Listed V) (t : Option (List ℕ)) → is_in k.b (kind_of k.n k.aim c) ≡ true → new_text k c ≡ t → HasNone k c ⊎ Has k c
+inside_case : {V R : Type 0} (k : Asked V R) (c : Listed V) (t : Option (List ℕ)) → offers k c ≡ true → new_text k c ≡ t → HasNone k c ⊎ Has k c
 inside_case {V} k c None inside is =
     inl (rw (inside, is) refl, λ d same fits. let here : new_text k c ≡ Some d.new_value = subst (λ (x : Listed V). new_text k x ≡ Some d.new_value) same fits.text in cc (sym is ∙ here))
 inside_case k c (Some text) inside is = inr (record { text = text; is = rw (inside, is) refl; fits = record { inside = inside; text = is } })
 
 one_case : {V R : Type 0} (k : Asked V R) (c : Listed V) → HasNone k c ⊎ Has k c
-one_case {V} k c = elim (cases_Bool (is_in k.b (kind_of k.n k.aim c))) [
+one_case {V} k c = elim (cases_Bool (offers k c)) [
   | inl inside ↦ inside_case k c (new_text k c) inside refl
-  | inr out ↦ inl (rw out refl, λ d same fits. let here = subst (λ (x : Listed V). is_in k.b (kind_of k.n k.aim x) ≡ true) same fits.inside in cc (sym out ∙ here))
+  | inr out ↦ inl (rw out refl, λ d same fits. let here = subst (λ (x : Listed V). offers k x ≡ true) same fits.inside in cc (sym out ∙ here))
 ]
 
 -- ---- the releases from some place on
@@ -140,8 +145,8 @@ from_end k top = refl
 
 -- ---- the loop
 
-abbrev pub asked : {V R : Type 0} → Numbering V R → Options → ℕ → Aim V → Bucket → Asked V R
-asked n o moment aim b = record { n = n; o = o; moment = moment; aim = aim; b = b }
+abbrev pub asked : {V R : Type 0} → Numbering V R → Options → ℕ → Aim V → Bucket → Allowance R → Asked V R
+asked n o moment aim b allowance = record { n = n; o = o; moment = moment; aim = aim; b = b; allowance = allowance }
 
 step_from : {V R : Type 0} (k : Asked V R) (top : Option Choice) (xs : List (Listed V)) (i : ℕ) (c : Listed V) (q : Option Choice) → c ≡ get_or xs i c → i < length xs → q ≡ at k c
     → chosen_next top q (λ t. from k t (drop (i + 1) xs)) ≡ from k top (drop i xs)
@@ -281,51 +286,77 @@ chosen_in k total (c ∷ cs) falling =
 
 -- ---- all the candidates
 
-abbrev Wanted : {V R : Type 0} → Asked V R → List (Listed V) → List (Listed V) → Type 0
-Wanted k found ranked = IsPermutation (filter (is_wanted k.n k.aim) found) ranked
+-- the versions that the options allow
+abbrev Allows : {V R : Type 0} → Asked V R → Type 0
+Allows k = k.allowance ≡ allowance_of k.n k.aim.options.allowed
 
-in_list : {V R : Type 0} (k : Asked V R) (found ranked : List (Listed V)) (d : Offer V) → Wanted k found ranked → InBucket k.n k.aim found k.b d → In k ranked d
-in_list k found ranked d all b = record {
-  among = Contains-permutation (filter (is_wanted k.n k.aim) found) ranked d.listed all (kept (is_wanted k.n k.aim) found d.listed b.candidate.wanted b.candidate.among);
-  fits = record { inside = b.inside; text = b.candidate.new_value };
-}
+offered_from : (a b c : Bool) → (a && c) ≡ true → b ≡ true → (a && b && c) ≡ true
+offered_from true true true wanted inside = refl
+offered_from true true false wanted inside = wanted
+offered_from true false c wanted inside = absurd (cc inside)
+offered_from false b c wanted inside = wanted
 
-in_bucket : {V R : Type 0} (k : Asked V R) (found ranked : List (Listed V)) (d : Offer V) → Wanted k found ranked → In k ranked d → InBucket k.n k.aim found k.b d
-in_bucket k found ranked d all inside =
-    let back = IsPermutation-sym (filter (is_wanted k.n k.aim) found) ranked all in
-    let among = Contains-permutation ranked (filter (is_wanted k.n k.aim) found) d.listed back inside.among in
-    record {
-      candidate = record {
-        among = kept_among (is_wanted k.n k.aim) found d.listed among;
-        wanted = kept_passes (is_wanted k.n k.aim) found d.listed among;
-        new_value = inside.fits.text;
+wanted_from : (a b c : Bool) → (a && b && c) ≡ true → (a && c) ≡ true
+wanted_from true true c offered = offered
+wanted_from true false c offered = absurd (cc offered)
+wanted_from false b c offered = offered
+
+inside_from : (a b c : Bool) → (a && b && c) ≡ true → b ≡ true
+inside_from true true c offered = refl
+inside_from true false c offered = absurd (cc offered)
+inside_from false b c offered = absurd (cc offered)
+
+module _ {V R : Type 0} (k : Asked V R) (allows : Allows k) where
+  abbrev above : Listed V → Bool
+  above c = is_above k.n k.aim.start c.version
+
+  abbrev inside : Listed V → Bool
+  inside c = is_in k.b (kind_of k.n k.aim c)
+
+  abbrev admitted : Listed V → Allowance R → Bool
+  admitted c allowance = admits k.n allowance c.release.text c.version
+
+  in_list : (found : List (Listed V)) (d : Offer V) → InBucket k.n k.aim found k.b d → In k found d
+  in_list found d b =
+      let wanted = subst (λ (x : Allowance R). (above d.listed && admitted d.listed x) ≡ true) (sym allows) b.candidate.wanted in
+      record {
+        among = b.candidate.among;
+        fits = record { inside = offered_from (above d.listed) (inside d.listed) (admitted d.listed k.allowance) wanted b.inside; text = b.candidate.new_value };
+      }
+
+  in_bucket : (found : List (Listed V)) (d : Offer V) → In k found d → InBucket k.n k.aim found k.b d
+  in_bucket found d i =
+      let wanted = wanted_from (above d.listed) (inside d.listed) (admitted d.listed k.allowance) i.fits.inside in
+      record {
+        candidate = record {
+          among = i.among;
+          wanted = subst (λ (x : Allowance R). (above d.listed && admitted d.listed x) ≡ true) allows wanted;
+          new_value = i.fits.text;
+        };
+        inside = inside_from (above d.listed) (inside d.listed) (admitted d.listed k.allowance) i.fits.inside;
+      }
+
+  chosen_of : (found : List (Listed V)) (choice : Option Choice) → ChosenIn k found choice → IsChosen k.n k.o k.moment k.aim found k.b choice
+  chosen_of found None chosen = λ d b. chosen d (in_list found d b)
+  chosen_of found (Some choice) chosen = elim chosen [
+    | inl ready ↦ inl (record {
+      offer = ready.one;
+      greatest = record {
+        inside = record { in_bucket = in_bucket found ready.one ready.inside; old = ready.old };
+        greatest = λ d r. ready.greatest d (in_list found d r.in_bucket) r.old;
       };
-      inside = inside.fits.inside;
-    }
+      same = ready.same;
+    })
+    | inr pending ↦ inr (record {
+      none = λ d r. pending.none d (in_list found d r.in_bucket) r.old;
+      offer = pending.one;
+      greatest = record {
+        inside = in_bucket found pending.one pending.inside;
+        greatest = λ d b. pending.greatest d (in_list found d b);
+      };
+      same = pending.same;
+    })
+  ]
 
-chosen_of : {V R : Type 0} (k : Asked V R) (found ranked : List (Listed V)) (choice : Option Choice) → Wanted k found ranked → ChosenIn k ranked choice
-    → IsChosen k.n k.o k.moment k.aim found k.b choice
-chosen_of k found ranked None all chosen = λ d b. chosen d (in_list k found ranked d all b)
-chosen_of k found ranked (Some choice) all chosen = elim chosen [
-  | inl ready ↦ inl (record {
-    offer = ready.one;
-    greatest = record {
-      inside = record { in_bucket = in_bucket k found ranked ready.one all ready.inside; old = ready.old };
-      greatest = λ d r. ready.greatest d (in_list k found ranked d all r.in_bucket) r.old;
-    };
-    same = ready.same;
-  })
-  | inr pending ↦ inr (record {
-    none = λ d r. pending.none d (in_list k found ranked d all r.in_bucket) r.old;
-    offer = pending.one;
-    greatest = record {
-      inside = in_bucket k found ranked pending.one all pending.inside;
-      greatest = λ d b. pending.greatest d (in_list k found ranked d all b);
-    };
-    same = pending.same;
-  })
-]
-
-pub is_chosen : {V R : Type 0} (k : Asked V R) → IsTotalOrder k.n.order → (found ranked : List (Listed V)) → Wanted k found ranked
-    → IsFalling (listed_cmp k.n) ranked → IsChosen k.n k.o k.moment k.aim found k.b (from k None ranked)
-is_chosen k total found ranked all falling = chosen_of k found ranked (from k None ranked) all (chosen_in k total ranked falling)
+  pub is_chosen : IsTotalOrder k.n.order → (found : List (Listed V)) → IsFalling (listed_cmp k.n) found → IsChosen k.n k.o k.moment k.aim found k.b (from k None found)
+  is_chosen total found falling = chosen_of found (from k None found) (chosen_in k total found falling)

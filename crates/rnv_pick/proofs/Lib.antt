@@ -1,10 +1,11 @@
-pub mod Bests
 pub mod Listings
 pub mod Falling
-pub mod Kept
+pub mod Among
 pub mod Chosen
 pub mod Rising
 pub mod ToChosen
+pub mod Ranked
+pub mod Alike
 pub mod OneAnswer
 pub mod Own
 pub mod Unread

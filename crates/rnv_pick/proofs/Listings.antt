@@ -11,17 +11,10 @@ use Rattle.std.proofs.lemmas.List.Elements.{All-nil, All-cons, filter_map-append
 use Rattle.rnv_release.specs.declared.release.Release.{Release}
 use Rattle.rnv_version.specs.Numbering.{Numbering}
 use Rattle.rnv_pick.specs.declared.live.Live.{Live}
-use Rattle.rnv_pick.specs.Best.{better}
-use Rattle.rnv_pick.specs.Greatest.{IsBest}
 use Rattle.rnv_pick.specs.Listing.{IsNamed, Listed, in_range, listed_as, listed_cmp, listed_of, listed_total, live_releases, live_version}
 use Rattle.rnv_pick.specs.Seen.{seen}
-use Rattle.rnv_pick.proofs.Bests.{best_more}
 
 -- ---- releases
-
--- the front of a list with one more element
-one_more : {X : Type 0} (xs : List X) (i : ℕ) (x : X) → x ≡ get_or xs i x → i < length xs → take (i + 1) xs ≡ take i xs ++ x ∷ []
-one_more xs i x here within = rw add-one (take-suc xs i x within ∙ ap (λ y. take i xs ++ y ∷ []) (sym here))
 
 -- what the last element gives
 last_one : {X Y : Type 0} (f : X → Option Y) (x : X) (o : Option Y) → f x ≡ o → filter_map f (x ∷ []) ≡ option_to_list o
@@ -31,13 +24,11 @@ last_one f x (Some y) e = rw e refl
 map_one : {X Y : Type 0} (f : X → Option Y) (xs : List X) (x : X) → filter_map f (xs ++ x ∷ []) ≡ filter_map f xs ++ option_to_list (f x)
 map_one f xs x = filter_map-append f xs (x ∷ []) ∙ ap (λ ys. filter_map f xs ++ ys) (last_one f x (f x) refl)
 
-pub listed_step : {V R : Type 0} (n : Numbering V R) (releases : List Release) (i : ℕ) (r : Release) (version : Option V) (before after : List (Listed V)) → r ≡ get_or releases i r
-    → i < length releases → before ≡ live_releases n (take i releases) → version ≡ live_version n r → after ≡ before ++ option_to_list (listed_as r version)
-    → after ≡ live_releases n (take (i + 1) releases)
-listed_step {V} n releases i r version before after here within so_far is more =
+pub listed_step : {V R : Type 0} (n : Numbering V R) (yielded : List Release) (r : Release) (version : Option V) (before after : List (Listed V))
+    → before ≡ live_releases n yielded → version ≡ live_version n r → after ≡ before ++ option_to_list (listed_as r version) → after ≡ live_releases n (yielded ++ r ∷ [])
+listed_step {V} n yielded r version before after so_far is more =
     more ∙ ap (λ (b : List (Listed V)). b ++ option_to_list (listed_as r version)) so_far
-    ∙ ap (λ (v : Option V). live_releases n (take i releases) ++ option_to_list (listed_as r v)) is
-    ∙ sym (map_one (listed_of n) (take i releases) r) ∙ sym (ap (live_releases n) (one_more releases i r here within))
+    ∙ ap (λ (v : Option V). live_releases n yielded ++ option_to_list (listed_as r v)) is ∙ sym (map_one (listed_of n) yielded r)
 
 -- ---- each is named by its text
 
@@ -68,20 +59,8 @@ all_named n (r ∷ rest) = one_more_named n r (listed_of n r) (live_releases n r
 
 -- ---- what is seen of a list
 
-pub seen_more : {X : Type 0} (found : List (Live X)) (i : ℕ) (l : Live X) → l ≡ get_or found i l → i < length found
-    → map seen (take (i + 1) found) ≡ map seen (take i found) ++ seen l ∷ []
-seen_more {X} found i l here within = map_more seen found i l within ∙ ap (λ (x : Live X). map seen (take i found) ++ seen x ∷ []) (sym here)
-
 pub seen_here : {X : Type 0} (found : List (Live X)) (i : ℕ) (l : Live X) → l ≡ get_or found i l → i < length found → seen l ≡ get_or (map seen found) i (seen l)
 seen_here found i l here within = ap seen here ∙ sym (get_or-map seen found i l (seen l) within)
 
 pub seen_length : {X : Type 0} (found : List (Live X)) → length (map seen found) ≡ length found
 seen_length found = length-map found seen
-
-pub best_step : {V R : Type 0} (n : Numbering V R) → IsTotalOrder n.order → (range : R) (found : List (Live V)) (i : ℕ) (l : Live V) (best after : Option (Listed V)) → l ≡ get_or found i l
-    → i < length found → IsBest (listed_cmp n) (in_range n range) (map seen (take i found)) best → after ≡ better (listed_cmp n) (in_range n range) best (seen l)
-    → IsBest (listed_cmp n) (in_range n range) (map seen (take (i + 1) found)) after
-best_step {V} n total range found i l best after here within so_far is =
-    let more = best_more (listed_cmp n) (listed_total n total) (in_range n range) (map seen (take i found)) best (seen l) so_far in
-    let moved = subst (λ (xs : List (Listed V)). IsBest (listed_cmp n) (in_range n range) xs (better (listed_cmp n) (in_range n range) best (seen l))) (sym (seen_more found i l here within)) more in
-    subst (λ (b : Option (Listed V)). IsBest (listed_cmp n) (in_range n range) (map seen (take (i + 1) found)) b) (sym is) moved

@@ -1,11 +1,13 @@
 -- Which candidate of a bucket is chosen.
-use Rattle.std.specs.Prelude.{◌≡◌, ◌⊎◌, ℕ, ◌+◌, nat_le, Bool, true, false, not, List, [], ◌∷◌, Option, Some, None, option_map, if◌then◌else◌}
+use Rattle.std.specs.Prelude.{◌≡◌, ◌⊎◌, ℕ, ◌+◌, nat_le, Bool, true, false, not, ◌&&◌, List, [], ◌∷◌, Option, Some, None, option_map, if◌then◌else◌}
 use Rattle.rnv_version.specs.Numbering.{Numbering}
+use Rattle.rnv_pick.specs.declared.allowance.Allowance.{Allowance}
 use Rattle.rnv_pick.specs.declared.bucket.Bucket.{Bucket}
 use Rattle.rnv_pick.specs.declared.options.UpdateOptions.{UpdateOptions}
 use Rattle.rnv_pick.specs.declared.choice.Choice.{Choice}
+use Rattle.rnv_pick.specs.Allowing.{admits}
 use Rattle.rnv_pick.specs.Buckets.{is_in}
-use Rattle.rnv_pick.specs.Candidates.{Aim, Offer, IsCandidate, kind_of, offer_cmp}
+use Rattle.rnv_pick.specs.Candidates.{Aim, Offer, IsCandidate, is_above, kind_of, offer_cmp}
 use Rattle.rnv_pick.specs.Greatest.{IsGreatest}
 use Rattle.rnv_pick.specs.Listing.{Listed}
 use Rattle.rnv_pick.specs.Options.{Options}
@@ -64,16 +66,22 @@ IsChosen n o moment aim found b (Some choice) = IsReadyChoice n o moment aim fou
 
 -- ---- going through candidates from the greatest on
 
--- a release as a choice of the bucket, if it has a new text
+-- a release is wanted and of the bucket
+abbrev pub is_offered : {V R : Type 0} → Numbering V R → Aim V → Bucket → Allowance R → Listed V → Bool
+is_offered n aim b allowance c = is_above n aim.start c.version && is_in b (kind_of n aim c) && admits n allowance c.release.text c.version
+
+-- a release as a choice
 abbrev pub judged : {V R : Type 0} → Numbering V R → Options → ℕ → Aim V → Listed V → List ℕ → Choice
 judged n o moment aim c text =
     choice_of n o aim (not (is_old_enough n o moment aim (record { listed = c; new_value = text }))) (record { listed = c; new_value = text })
 
-abbrev pub offered : {V R : Type 0} → Numbering V R → Options → ℕ → Aim V → Bucket → Listed V → Option Choice
-offered n o moment aim b c =
-    if is_in b (kind_of n aim c)
-    then option_map (judged n o moment aim c) (n.new_text aim.options.strategy aim.dep.value c.release.text)
-    else None
+-- if it has a new text
+abbrev pub rewritten : {V R : Type 0} → Numbering V R → Options → ℕ → Aim V → Listed V → Option Choice
+rewritten n o moment aim c = option_map (judged n o moment aim c) (n.new_text aim.options.strategy aim.dep.value c.release.text)
+
+-- and is wanted and of the bucket, where these versions are allowed
+abbrev pub offered : {V R : Type 0} → Numbering V R → Options → ℕ → Aim V → Bucket → Allowance R → Listed V → Option Choice
+offered n o moment aim b allowance c = if is_offered n aim b allowance c then rewritten n o moment aim c else None
 
 -- the first, once there is one
 abbrev pub first_of : Option Choice → Choice → Choice
@@ -86,6 +94,6 @@ chosen_next top None rest = rest top
 chosen_next top (Some next) rest = if next.pending then rest (Some (first_of top next)) else Some next
 
 -- the first one that is not pending, else the first of all
-unfoldable pub chosen_from : {V R : Type 0} → Numbering V R → Options → ℕ → Aim V → Bucket → Option Choice → List (Listed V) → Option Choice
-chosen_from n o moment aim b top [] = top
-chosen_from n o moment aim b top (c ∷ cs) = chosen_next top (offered n o moment aim b c) (λ t. chosen_from n o moment aim b t cs)
+unfoldable pub chosen_from : {V R : Type 0} → Numbering V R → Options → ℕ → Aim V → Bucket → Allowance R → Option Choice → List (Listed V) → Option Choice
+chosen_from n o moment aim b allowance top [] = top
+chosen_from n o moment aim b allowance top (c ∷ cs) = chosen_next top (offered n o moment aim b allowance c) (λ t. chosen_from n o moment aim b allowance t cs)

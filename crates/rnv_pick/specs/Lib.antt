@@ -1,11 +1,11 @@
 pub mod Options
 pub mod Buckets
 pub mod Greatest
-pub mod Best
 pub mod Listing
 pub mod Allowing
 pub mod Candidates
 pub mod Choices
 pub mod Updates
 pub mod Seen
+pub mod Ranking
 pub mod BySource

@@ -40,13 +40,17 @@ IsCurrent n value found current = IsCurrentIn n value found (n.range_of value) c
 abbrev pub late_skip : Bool → Option (List ℕ) → Option Skip
 late_skip enabled current = if not enabled then Some Disabled else (if is_none current then Some NoRelease else None)
 
--- the first reason of these that holds, where the dependency has its current version
-abbrev pub skip_of : {V R : Type 0} → Numbering V R → Options → Dep → Option (List Release) → Option Skip
-skip_of n o dep releases =
+-- the first reason of these that holds, where the dependency has its current version, and its package has no document
+-- or has one
+abbrev pub skip_at : {V R : Type 0} → Numbering V R → Options → Dep → Bool → Option Skip
+skip_at n o dep is_missing =
     if o.is_ignored dep then Some Ignored else
     (if is_none (n.range_of dep.value) then Some Unreadable else
-    (if is_none releases then Some NoIndex else
+    (if is_missing then Some NoIndex else
     late_skip (o.at_dep dep).enabled dep.current))
+
+abbrev pub skip_of : {V R : Type 0} → Numbering V R → Options → Dep → Option (List Release) → Option Skip
+skip_of n o dep releases = skip_at n o dep (is_none releases)
 
 -- ---- updates
 
@@ -142,8 +146,11 @@ abbrev pub AreUnlessSkipped : {V R : Type 0} → Numbering V R → Options → �
 AreUnlessSkipped n o moment dep found (Some skip) updates = updates ≡ []
 AreUnlessSkipped n o moment dep found None updates = AreUpdates n o moment dep found (n.range_of dep.value) dep.current updates
 
--- what is picked for a dependency, where its package has a document or not
-pub record IsPicked {V R : Type 0} (n : Numbering V R) (o : Options) (moment : ℕ) (dep : Dep) (releases : Option (List Release)) (p : Picked) : Type 0 where
-  pub current : IsCurrent n dep.value (live_releases n (unwrap_or releases [])) p.current
-  pub skip : p.skip ≡ skip_of n o (with_current dep p.current) releases
-  pub updates : AreUnlessSkipped n o moment (with_current dep p.current) (live_releases n (unwrap_or releases [])) p.skip p.updates
+-- what is picked for a dependency, where its package has no document or has one, of these versions
+pub record IsPickedOf {V R : Type 0} (n : Numbering V R) (o : Options) (moment : ℕ) (dep : Dep) (is_missing : Bool) (found : List (Listed V)) (p : Picked) : Type 0 where
+  pub current : IsCurrent n dep.value found p.current
+  pub skip : p.skip ≡ skip_at n o (with_current dep p.current) is_missing
+  pub updates : AreUnlessSkipped n o moment (with_current dep p.current) found p.skip p.updates
+
+abbrev pub IsPicked : {V R : Type 0} → Numbering V R → Options → ℕ → Dep → Option (List Release) → Picked → Type 0
+IsPicked n o moment dep releases p = IsPickedOf n o moment dep (is_none releases) (live_releases n (unwrap_or releases [])) p

@@ -4,12 +4,13 @@ ghost use Rattle.rnv_release.specs.declared.release.Release.{Release};
 ghost use Rattle.rnv_pick.specs.declared.dep.Dep.{Dep};
 ghost use Rattle.rnv_pick.specs.BySource.{HasOneAnswer, IsPickedFrom, is_range};
 ghost use Rattle.rnv_pick.specs.Options.{Options};
+ghost use Rattle.rnv_pick.specs.Ranking.{IsListing};
 
+use crate::listing::{crates, docker, npm};
 use crate::picking::picked;
-use crate::{Dep, Picked, Rules};
-use rnv_base::{List, SourceKind};
+use crate::{Dep, Listing, Picked, Rules};
+use rnv_base::SourceKind;
 use rnv_npm::NpmVersioning;
-use rnv_release::Release;
 use rnv_version::{CargoVersioning, DockerVersioning, RangeError, Versioning};
 use std::alloc::{AllocError, Global};
 
@@ -41,22 +42,32 @@ pub fn is_range(alloc: Global, source: SourceKind, value: &str) -> Result<bool, 
 }
 
 /// The text of a dependency's current version, the first reason to skip it, and its updates at a
-/// moment (seconds since 1970-01-01T00:00:00Z), by the versioning of its source. The releases are those
-/// of its package, none where this has no document. The `current` of the given `dep` is not read. Only
-/// memory can fail.
+/// moment (seconds since 1970-01-01T00:00:00Z), by the versioning of its source. The listing is that of
+/// its package's document, none where this has no document. The `current` of the given `dep` is not
+/// read. Only memory can fail.
 pub fn updates<O: Rules>(
     alloc: Global,
     dep: &Dep,
-    releases: Option<&List<Release>>,
+    listing: Option<&Listing>,
     rules: &O,
     moment: u64,
 ) -> Result<Picked, AllocError>
-    ensures { IfOk result (IsPickedFrom dep.now.source (O.options rules.now) moment dep.now (option_copied releases.entry)) }
+    requires { (releases : Option (Items Release)) × IsListing dep.now.source releases (option_copied listing) }
+    ensures { (releases : Option (Items Release)) → IsListing dep.now.source releases (option_copied listing.entry) → IfOk result (IsPickedFrom dep.now.source (O.options rules.now) moment dep.now releases) }
 {
     match dep.source {
-        SourceKind::Crates => picked(alloc, &CargoVersioning, dep, releases, rules, moment),
-        SourceKind::Npm => picked(alloc, &NpmVersioning, dep, releases, rules, moment),
-        SourceKind::Docker => picked(alloc, &DockerVersioning, dep, releases, rules, moment),
+        SourceKind::Crates => {
+            let found = crates(listing);
+            picked(alloc, &CargoVersioning, dep, found, rules, moment)
+        }
+        SourceKind::Npm => {
+            let found = npm(listing);
+            picked(alloc, &NpmVersioning, dep, found, rules, moment)
+        }
+        SourceKind::Docker => {
+            let found = docker(listing);
+            picked(alloc, &DockerVersioning, dep, found, rules, moment)
+        }
     }
 }
 

@@ -1,14 +1,16 @@
 // Which candidate of a bucket is chosen.
 
 ghost use Rattle.std.specs.Prelude.{◌≡◌, Some, None, not, map, All, IfOk};
-ghost use Rattle.rnv_pick.specs.Choices.{chosen_from, first_of, is_old, offered};
+ghost use Rattle.rnv_pick.specs.Choices.{chosen_from, first_of, is_old, offered, rewritten};
 ghost use Rattle.rnv_pick.specs.Listing.{IsNamed};
 ghost use Rattle.rnv_pick.specs.Seen.{aim_of, seen};
 
+use crate::allowance::Allowance;
 use crate::bucket::Bucket;
 use crate::choice::Choice;
 use crate::live::Live;
 use crate::target::Target;
+use crate::wanted::is_offered;
 use crate::{Dep, Rules};
 use rnv_base::{Share, Text, UpdateKind};
 use rnv_release::Release;
@@ -49,24 +51,20 @@ fn judged<O: Rules>(
     })
 }
 
-// A release as a choice of the bucket, if it has a new text.
-fn offered<V: Versioning, O: Rules>(
+// A release as a choice, if it has a new text.
+fn rewritten<V: Versioning, O: Rules>(
     alloc: Global,
     versioning: &V,
     rules: &O,
     moment: u64,
     target: &Target<'_, V::Version, V::Range>,
-    bucket: Bucket,
-    live: &Live<'_, V::Version>,
+    live: &Live<V::Version>,
 ) -> Result<Option<Choice>, AllocError>
     requires value { (V.numbering versioning.now).range_of target.now.dep.now.value ≡ Some target.now.range.now }
     requires version { IsNamed (V.numbering versioning.now) (seen live.now) }
-    ensures { IfOk result (λ c. c ≡ offered (V.numbering versioning.now) (O.options rules.now) moment (aim_of target.now) bucket (seen live.now)) }
+    ensures { IfOk result (λ c. c ≡ rewritten (V.numbering versioning.now) (O.options rules.now) moment (aim_of target.now) (seen live.now)) }
 {
     let kind = versioning.kind(target.start, &live.version);
-    if !bucket.holds(kind) {
-        return Ok(None);
-    }
     let text = versioning.rewritten(
         alloc,
         target.options.strategy,
@@ -76,8 +74,34 @@ fn offered<V: Versioning, O: Rules>(
         &live.version,
     )?;
     match text {
-        Some(text) => Ok(Some(judged(alloc, rules, moment, target.dep, kind, live.release, text)?)),
+        Some(text) => {
+            let dep = target.dep;
+            Ok(Some(judged(alloc, rules, moment, dep, kind, &live.release, text)?))
+        }
         None => Ok(None),
+    }
+}
+
+// A release as a choice of the bucket, if it is one and has a new text.
+fn offered<V: Versioning, O: Rules>(
+    alloc: Global,
+    versioning: &V,
+    rules: &O,
+    moment: u64,
+    target: &Target<'_, V::Version, V::Range>,
+    bucket: Bucket,
+    allowance: &mut Allowance<'_, V::Range>,
+    live: &Live<V::Version>,
+) -> Result<Option<Choice>, AllocError>
+    requires value { (V.numbering versioning.now).range_of target.now.dep.now.value ≡ Some target.now.range.now }
+    requires version { IsNamed (V.numbering versioning.now) (seen live.now) }
+    ensures offered { IfOk result (λ c. c ≡ offered (V.numbering versioning.now) (O.options rules.now) moment (aim_of target.now) bucket allowance.old (seen live.now)) }
+    ensures same { allowance.new ≡ allowance.old }
+{
+    if is_offered(versioning, target, bucket, allowance, live) {
+        rewritten(alloc, versioning, rules, moment, target, live)
+    } else {
+        Ok(None)
     }
 }
 
@@ -100,15 +124,19 @@ pub(crate) fn chosen<V: Versioning, O: Rules>(
     moment: u64,
     target: &Target<'_, V::Version, V::Range>,
     bucket: Bucket,
-    ranked: &[Live<'_, V::Version>],
+    allowance: &mut Allowance<'_, V::Range>,
+    found: &[Live<V::Version>],
 ) -> Result<Option<Choice>, AllocError>
     requires value { (V.numbering versioning.now).range_of target.now.dep.now.value ≡ Some target.now.range.now }
-    requires versions { All (λ l. IsNamed (V.numbering versioning.now) (seen l)) ranked.now }
-    ensures { IfOk result (λ c. c ≡ chosen_from (V.numbering versioning.now) (O.options rules.now) moment (aim_of target.now) bucket None (map seen ranked.now)) }
+    requires versions { All (λ l. IsNamed (V.numbering versioning.now) (seen l)) found.now }
+    ensures chosen { IfOk result (λ c. c ≡ chosen_from (V.numbering versioning.now) (O.options rules.now) moment (aim_of target.now) bucket allowance.old None (map seen found.now)) }
+    ensures same { allowance.new ≡ allowance.old }
 {
     let mut top = None;
-    for live in ranked {
-        let next = offered(alloc, versioning, rules, moment, target, bucket, live)?;
+    for live in found {
+        let next = offered(
+            alloc, versioning, rules, moment, target, bucket, allowance, live,
+        )?;
         let Some(next) = next else {
             continue;
         };

@@ -8,6 +8,7 @@ mod by_source;
 mod choice;
 mod choosing;
 mod dep;
+mod listing;
 mod live;
 mod options;
 mod picking;
@@ -20,6 +21,7 @@ mod wanted;
 
 pub use by_source::{is_range, one_answer, updates};
 pub use dep::Dep;
+pub use listing::Listing;
 pub use options::{Allowed, DepOptions, UpdateOptions};
 pub use rules::Rules;
 pub use update::{Picked, Skip, Update};

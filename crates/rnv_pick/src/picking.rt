@@ -1,26 +1,26 @@
 // The updates of a dependency, over one versioning.
 
-ghost use Rattle.std.specs.Prelude.{◌≡◌, ◌++◌, [], Some, None, All, map, IfOk, OnOk, is_none, is_some, unwrap_or, not, ◌&&◌, if◌then◌else◌};
+ghost use Rattle.std.specs.Prelude.{◌≡◌, ◌++◌, [], List as Items, Option, Some, None, All, map, IfOk, OnOk, is_none, is_some, unwrap_or, not, ◌&&◌, if◌then◌else◌};
 ghost use Rattle.std.specs.List.{flat_map};
-ghost use Rattle.std.specs.Option.{option_copied};
+ghost use Rattle.rnv_release.specs.declared.release.Release.{Release as OfRelease};
 ghost use Rattle.rnv_pick.specs.Buckets.{buckets};
 ghost use Rattle.rnv_pick.specs.Choices.{chosen_from};
-ghost use Rattle.rnv_pick.specs.Listing.{IsGreatestIn, IsNamed};
+ghost use Rattle.rnv_pick.specs.Listing.{IsNamed, text_of};
 ghost use Rattle.rnv_pick.specs.Options.{with_current};
-ghost use Rattle.rnv_pick.specs.Seen.{aim_of, seen};
-ghost use Rattle.rnv_pick.specs.Updates.{AreToChosen, AreUnlessSkipped, AreUpdates, AreUpdatesAt, AreUpdatesFrom, IsCurrent, IsCurrentIn, IsPicked, enabled_update, is_bump, is_pin, late_skip, pin_updates, skip_of, start_of, updates_to};
+ghost use Rattle.rnv_pick.specs.Ranking.{AreRanked, IsRanked};
+ghost use Rattle.rnv_pick.specs.Seen.{aim_of, all_seen, seen, seen_at};
+ghost use Rattle.rnv_pick.specs.Updates.{AreToChosen, AreUnlessSkipped, AreUpdates, AreUpdatesAt, AreUpdatesFrom, IsCurrent, IsCurrentIn, IsPicked, IsPickedOf, enabled_update, is_bump, is_pin, late_skip, pin_updates, start_of, updates_to};
 
-use crate::allowance::range_of;
+use crate::allowance::{Allowance, allowance_of, range_of};
 use crate::bucket::buckets;
 use crate::choice::Choice;
 use crate::choosing::chosen;
 use crate::dep::share_text;
-use crate::live::{Live, greatest_in, live_releases};
+use crate::live::Live;
 use crate::target::Target;
-use crate::wanted::ranked;
+use crate::wanted::first_in;
 use crate::{Dep, DepOptions, Picked, Rules, Skip, Update};
 use rnv_base::{List, Share, Strategy, Text, UpdateKind};
-use rnv_release::Release;
 use rnv_version::{VersionError, Versioning};
 use std::alloc::{AllocError, Global};
 use std::convert::{AsSlice, AsStr};
@@ -81,16 +81,19 @@ fn to_each<V: Versioning, O: Rules>(
     rules: &O,
     moment: u64,
     target: &Target<'_, V::Version, V::Range>,
-    ranked: &[Live<'_, V::Version>],
+    allowance: &mut Allowance<'_, V::Range>,
+    found: &[Live<V::Version>],
 ) -> Result<List<Update>, AllocError>
     requires value { (V.numbering versioning.now).range_of target.now.dep.now.value ≡ Some target.now.range.now }
-    requires versions { All (λ l. IsNamed (V.numbering versioning.now) (seen l)) ranked.now }
-    ensures { IfOk result (λ updates. updates ≡ flat_map (λ b. updates_to target.now.dep.now target.now.options.now (chosen_from (V.numbering versioning.now) (O.options rules.now) moment (aim_of target.now) b None (map seen ranked.now))) (buckets target.now.options.now)) }
+    requires versions { All (λ l. IsNamed (V.numbering versioning.now) (seen l)) found.now }
+    ensures { IfOk result (λ updates. updates ≡ flat_map (λ b. updates_to target.now.dep.now target.now.options.now (chosen_from (V.numbering versioning.now) (O.options rules.now) moment (aim_of target.now) b allowance.old None (map seen found.now))) (buckets target.now.options.now)) }
 {
     let mut updates = List::empty(alloc);
     let all = buckets(target.options);
     for bucket in all {
-        let choice = chosen(alloc, versioning, rules, moment, target, *bucket, ranked)?;
+        let choice = chosen(
+            alloc, versioning, rules, moment, target, *bucket, allowance, found,
+        )?;
         add_chosen(alloc, target.dep, target.options, choice, &mut updates)?;
     }
     Ok(updates)
@@ -103,15 +106,15 @@ fn to_chosen<V: Versioning, O: Rules>(
     rules: &O,
     moment: u64,
     target: &Target<'_, V::Version, V::Range>,
-    found: Vec<Live<'_, V::Version>>,
+    found: &[Live<V::Version>],
 ) -> Result<List<Update>, AllocError>
     requires value { (V.numbering versioning.now).range_of target.now.dep.now.value ≡ Some target.now.range.now }
-    requires versions { All (IsNamed (V.numbering versioning.now)) (map seen found.items) }
-    ensures { IfOk result (AreToChosen (V.numbering versioning.now) (O.options rules.now) moment (aim_of target.now) (map seen found.entry.items)) }
+    requires ranked { IsRanked (V.numbering versioning.now) (map seen found.now) }
+    ensures { IfOk result (AreToChosen (V.numbering versioning.now) (O.options rules.now) moment (aim_of target.now) (map seen found.now)) }
 {
     versioning.keeps_laws();
-    let ranked = ranked(alloc, versioning, target, found)?;
-    to_each(alloc, versioning, rules, moment, target, ranked.as_slice())
+    let mut allowance = allowance_of(alloc, versioning, &target.options.allowed)?;
+    to_each(alloc, versioning, rules, moment, target, &mut allowance, found)
 }
 
 // The version that the candidates are above.
@@ -185,12 +188,12 @@ fn updates_from<V: Versioning, O: Rules>(
     range: &V::Range,
     current: &Text,
     version: V::Version,
-    found: Vec<Live<'_, V::Version>>,
+    found: &[Live<V::Version>],
 ) -> Result<List<Update>, AllocError>
     requires value { (V.numbering versioning.now).range_of dep.now.value ≡ Some range.now }
     requires version { (V.numbering versioning.now).version_of current.now ≡ Some version }
-    requires versions { All (IsNamed (V.numbering versioning.now)) (map seen found.items) }
-    ensures { IfOk result (AreUpdatesFrom (V.numbering versioning.now) (O.options rules.now) moment dep.now options.now (map seen found.entry.items) range.now current.now version) }
+    requires ranked { IsRanked (V.numbering versioning.now) (map seen found.now) }
+    ensures { IfOk result (AreUpdatesFrom (V.numbering versioning.now) (O.options rules.now) moment dep.now options.now (map seen found.now) range.now current.now version) }
 {
     if matches!(options.strategy, Strategy::Pin) && !versioning.exact(range) {
         return pin(
@@ -218,11 +221,11 @@ fn updates_at<V: Versioning, O: Rules>(
     options: &DepOptions,
     range: &V::Range,
     current: &Text,
-    found: Vec<Live<'_, V::Version>>,
+    found: &[Live<V::Version>],
 ) -> Result<List<Update>, AllocError>
     requires value { (V.numbering versioning.now).range_of dep.now.value ≡ Some range.now }
-    requires versions { All (IsNamed (V.numbering versioning.now)) (map seen found.items) }
-    ensures { IfOk result (AreUpdatesAt (V.numbering versioning.now) (O.options rules.now) moment dep.now options.now (map seen found.entry.items) range.now current.now ((V.numbering versioning.now).version_of current.now)) }
+    requires ranked { IsRanked (V.numbering versioning.now) (map seen found.now) }
+    ensures { IfOk result (AreUpdatesAt (V.numbering versioning.now) (O.options rules.now) moment dep.now options.now (map seen found.now) range.now current.now ((V.numbering versioning.now).version_of current.now)) }
 {
     match versioning.version(alloc, current.as_str()) {
         Ok(version) => updates_from(
@@ -233,21 +236,32 @@ fn updates_at<V: Versioning, O: Rules>(
     }
 }
 
+// The text of a release, if there is one.
+fn text_of<X>(alloc: Global, live: Option<&Live<X>>) -> Result<Option<Text>, AllocError>
+    ensures { IfOk result (λ text. text ≡ text_of (seen_at live.entry)) }
+{
+    match live {
+        Some(live) => Ok(Some(live.release.text.share(alloc)?)),
+        None => Ok(None),
+    }
+}
+
 // The current version of a value that is this range.
 fn current_in<V: Versioning>(
     alloc: Global,
     versioning: &V,
     value: &str,
     range: &V::Range,
-    found: &[Live<'_, V::Version>],
+    found: &[Live<V::Version>],
 ) -> Result<Option<Text>, AllocError>
-    requires { (V.numbering versioning.now).range_of value.now ≡ Some range.now }
+    requires value { (V.numbering versioning.now).range_of value.now ≡ Some range.now }
+    requires ranked { IsRanked (V.numbering versioning.now) (map seen found.now) }
     ensures { IfOk result (IsCurrentIn (V.numbering versioning.now) value.now (map seen found.now) (Some range.now)) }
 {
     if versioning.exact(range) {
         versioning.exact_text(alloc, value, range)
     } else {
-        greatest_in(alloc, versioning, range, found)
+        text_of(alloc, first_in(versioning, range, found))
     }
 }
 
@@ -257,9 +271,10 @@ fn current<V: Versioning>(
     versioning: &V,
     value: &str,
     range: &Option<V::Range>,
-    found: &[Live<'_, V::Version>],
+    found: &[Live<V::Version>],
 ) -> Result<Option<Text>, AllocError>
-    requires { range.now ≡ (V.numbering versioning.now).range_of value.now }
+    requires value { range.now ≡ (V.numbering versioning.now).range_of value.now }
+    requires ranked { IsRanked (V.numbering versioning.now) (map seen found.now) }
     ensures { IfOk result (IsCurrent (V.numbering versioning.now) value.now (map seen found.now)) }
 {
     match range {
@@ -269,14 +284,14 @@ fn current<V: Versioning>(
 }
 
 // The first reason to skip a dependency, before its options are asked for.
-fn early_skip(ignored: bool, readable: bool, indexed: bool) -> Option<Skip>
-    ensures { result ≡ (if ignored then Some Skip.Ignored else (if not readable then Some Skip.Unreadable else (if not indexed then Some Skip.NoIndex else None))) }
+fn early_skip(ignored: bool, readable: bool, is_missing: bool) -> Option<Skip>
+    ensures { result ≡ (if ignored then Some Skip.Ignored else (if not readable then Some Skip.Unreadable else (if is_missing then Some Skip.NoIndex else None))) }
 {
     if ignored {
         Some(Skip::Ignored)
     } else if !readable {
         Some(Skip::Unreadable)
-    } else if !indexed {
+    } else if is_missing {
         Some(Skip::NoIndex)
     } else {
         None
@@ -301,13 +316,13 @@ fn picked_at<V: Versioning, O: Rules>(
     moment: u64,
     dep: &Dep,
     range: &V::Range,
-    found: Vec<Live<'_, V::Version>>,
+    found: &[Live<V::Version>],
 ) -> Result<Picked, AllocError>
     requires value { (V.numbering versioning.now).range_of dep.now.value ≡ Some range.now }
-    requires versions { All (IsNamed (V.numbering versioning.now)) (map seen found.items) }
+    requires ranked { IsRanked (V.numbering versioning.now) (map seen found.now) }
     ensures current { IfOk result (λ p. p.current ≡ dep.now.current) }
     ensures skip { IfOk result (λ p. p.skip ≡ late_skip ((O.options rules.now).at_dep dep.now).enabled dep.now.current) }
-    ensures updates { IfOk result (λ p. AreUnlessSkipped (V.numbering versioning.now) (O.options rules.now) moment dep.now (map seen found.entry.items) p.skip p.updates) }
+    ensures updates { IfOk result (λ p. AreUnlessSkipped (V.numbering versioning.now) (O.options rules.now) moment dep.now (map seen found.now) p.skip p.updates) }
 {
     let options = rules.at_dep(alloc, dep)?;
     let current = share_text(alloc, &dep.current)?;
@@ -327,39 +342,24 @@ fn picked_at<V: Versioning, O: Rules>(
     })
 }
 
-// The releases of a document, and none without one.
-fn releases_of(releases: Option<&List<Release>>) -> &[Release]
-    ensures { result.now ≡ unwrap_or (option_copied releases.entry) [] }
-{
-    match releases {
-        Some(releases) => releases.as_slice(),
-        None => &[],
-    }
-}
-
-// The current version of a dependency, the first reason to skip it, and its updates, over one
-// versioning. Its value is read once, and the text of each release once.
-pub(crate) fn picked<V: Versioning, O: Rules>(
+// What is picked for a dependency, where its package has no document or has one, of these versions. Its
+// value is read once.
+fn picked_of<V: Versioning, O: Rules>(
     alloc: Global,
     versioning: &V,
     dep: &Dep,
-    releases: Option<&List<Release>>,
+    is_missing: bool,
+    found: &[Live<V::Version>],
     rules: &O,
     moment: u64,
 ) -> Result<Picked, AllocError>
-    ensures { IfOk result (IsPicked (V.numbering versioning.now) (O.options rules.now) moment dep.now (option_copied releases.entry)) }
+    requires { IsRanked (V.numbering versioning.now) (map seen found.now) }
+    ensures { IfOk result (IsPickedOf (V.numbering versioning.now) (O.options rules.now) moment dep.now is_missing (map seen found.now)) }
 {
     let range = range_of(alloc, versioning, dep.value.as_str())?;
-    let found = live_releases(alloc, versioning, releases_of(releases))?;
-    let current = current(
-        alloc,
-        versioning,
-        dep.value.as_str(),
-        &range,
-        found.as_slice(),
-    )?;
+    let current = current(alloc, versioning, dep.value.as_str(), &range, found)?;
     let dep = dep.with_current(alloc, current)?;
-    let early = early_skip(rules.is_ignored(&dep), range.is_some(), releases.is_some());
+    let early = early_skip(rules.is_ignored(&dep), range.is_some(), is_missing);
     if let Some(skip) = early {
         return Ok(skipped(alloc, share_text(alloc, &dep.current)?, skip));
     }
@@ -367,4 +367,32 @@ pub(crate) fn picked<V: Versioning, O: Rules>(
         Some(range) => picked_at(alloc, versioning, rules, moment, &dep, range, found),
         None => unreachable!(),
     }
+}
+
+// The versions of a document, and none without one.
+fn versions<'a, X>(found: Option<&'a [Live<X>]>) -> &'a [Live<X>]
+    ensures { map seen result.now ≡ unwrap_or (all_seen found.entry) [] }
+{
+    match found {
+        Some(found) => found,
+        None => &[],
+    }
+}
+
+// The current version of a dependency, the first reason to skip it, and its updates, over one
+// versioning, from the versions of its package's document, if it has one.
+pub(crate) fn picked<V: Versioning, O: Rules>(
+    alloc: Global,
+    versioning: &V,
+    dep: &Dep,
+    found: Option<&[Live<V::Version>]>,
+    rules: &O,
+    moment: u64,
+) -> Result<Picked, AllocError>
+    requires { (releases : Option (Items OfRelease)) × AreRanked (V.numbering versioning.now) releases (all_seen found) }
+    ensures { (releases : Option (Items OfRelease)) → AreRanked (V.numbering versioning.now) releases (all_seen found.entry) → IfOk result (IsPicked (V.numbering versioning.now) (O.options rules.now) moment dep.now releases) }
+{
+    let is_missing = found.is_none();
+    let versions = versions(found);
+    picked_of(alloc, versioning, dep, is_missing, versions, rules, moment)
 }

@@ -1,6 +1,6 @@
 ghost use Rattle.std.specs.Prelude.{◌≡◌, IfOk};
 
-use crate::{Allowed, Dep, DepOptions, Picked, Rules, UpdateOptions, one_answer, updates};
+use crate::{Allowed, Dep, DepOptions, Listing, Picked, Rules, UpdateOptions, one_answer, updates};
 use rnv_base::{List, ManagerKind, Share, SourceKind, Strategy, Text, UpdateKind};
 use rnv_pattern::{MemBuilder, PatternList};
 use rnv_release::Release;
@@ -159,7 +159,8 @@ fn listed(
 ) -> Result<String, AllocError> {
     let releases = releases(alloc, texts)?;
     let dep = dep(alloc, source, value)?;
-    let picked = updates(alloc, &dep, Some(&releases), rules, 100)?;
+    let listing = Listing::read(alloc, source, releases)?;
+    let picked = updates(alloc, &dep, Some(&listing), rules, 100)?;
     shown(alloc, &picked)
 }
 
@@ -396,7 +397,8 @@ fn asks_for_few(rt: HostRuntime) -> Result<(), Fail> {
     let mut rules = rules(Strategy::Auto);
     rules.update.age = Some(50);
     let dep = dep(alloc, SourceKind::Npm, "1.0.0")?;
-    let picked = updates(alloc, &dep, Some(&list), &rules, 100)?;
+    let listing = Listing::read(alloc, SourceKind::Npm, list)?;
+    let picked = updates(alloc, &dep, Some(&listing), &rules, 100)?;
     let found = shown(alloc, &picked)?;
     assert_eq!(rt; found.as_str(), "1.0.0 1.9999.0[1.9999.0]Minor");
     assert_eq!(rt; rules.asked.get(), 1);

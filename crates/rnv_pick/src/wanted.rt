@@ -1,20 +1,32 @@
-// The releases that may be chosen, but for their new texts.
+// Which releases may be chosen, but for their new texts.
 
-ghost use Rattle.std.specs.Prelude.{◌≡◌, map, IfOk, IsPermutation};
-ghost use Rattle.std.specs.List.{filter};
-ghost use Rattle.rnv_pick.specs.Allowing.{allowance_of};
-ghost use Rattle.rnv_pick.specs.Candidates.{is_above, is_wanted, is_wanted_by};
-ghost use Rattle.rnv_pick.specs.Greatest.{IsFalling};
-ghost use Rattle.rnv_pick.specs.Listing.{listed_cmp};
-ghost use Rattle.rnv_pick.specs.Seen.{aim_of, seen};
+ghost use Rattle.std.specs.Prelude.{◌≡◌, map};
+ghost use Rattle.std.specs.List.{find};
+ghost use Rattle.rnv_pick.specs.Candidates.{is_above};
+ghost use Rattle.rnv_pick.specs.Choices.{is_offered};
+ghost use Rattle.rnv_pick.specs.Listing.{in_range};
+ghost use Rattle.rnv_pick.specs.Seen.{aim_of, seen, seen_at};
 
-use crate::allowance::{Allowance, admits, allowance_of};
-use crate::live::{Live, compare};
+use crate::allowance::{Allowance, admits};
+use crate::bucket::Bucket;
+use crate::live::Live;
 use crate::target::Target;
 use rnv_version::Versioning;
-use std::alloc::{AllocError, Global};
 use std::cmp::Ordering;
 use std::convert::AsStr;
+
+// The first release in the range.
+pub(crate) fn first_in<'a, V: Versioning>(
+    versioning: &V,
+    range: &V::Range,
+    found: &'a [Live<V::Version>],
+) -> Option<&'a Live<V::Version>>
+    ensures { seen_at result ≡ find (in_range (V.numbering versioning.now) range.now) (map seen found.now) }
+{
+    found
+        .iter()
+        .find(|live| versioning.satisfies(range, &live.version))
+}
 
 // Whether a version is comparable with the start and greater, and stable unless the start is not.
 fn is_above<V: Versioning>(versioning: &V, start: &V::Version, version: &V::Version) -> bool
@@ -25,64 +37,23 @@ fn is_above<V: Versioning>(versioning: &V, start: &V::Version, version: &V::Vers
         && (versioning.stable(version) || !versioning.stable(start))
 }
 
-// Whether a release is above the start and allowed.
-fn is_wanted<V: Versioning>(
+// Whether a release is above the start, of the bucket and allowed.
+pub(crate) fn is_offered<V: Versioning>(
     versioning: &V,
-    start: &V::Version,
+    target: &Target<'_, V::Version, V::Range>,
+    bucket: Bucket,
     allowance: &mut Allowance<'_, V::Range>,
-    live: &Live<'_, V::Version>,
+    live: &Live<V::Version>,
 ) -> bool
-    ensures wanted { result ≡ is_wanted_by (V.numbering versioning.now) start.now allowance.old (seen live.now) }
+    ensures offered { result ≡ is_offered (V.numbering versioning.now) (aim_of target.now) bucket allowance.old (seen live.now) }
     ensures same { allowance.new ≡ allowance.old }
 {
-    is_above(versioning, start, &live.version)
+    is_above(versioning, target.start, &live.version)
+        && bucket.holds(versioning.kind(target.start, &live.version))
         && admits(
             versioning,
             allowance,
             live.release.text.as_str(),
             &live.version,
         )
-}
-
-// Keeps the releases that are wanted.
-fn keep_wanted<'a, V: Versioning>(
-    versioning: &V,
-    start: &V::Version,
-    allowance: &mut Allowance<'_, V::Range>,
-    found: &mut Vec<Live<'a, V::Version>>,
-)
-    ensures { found.new.items ≡ filter (λ l. is_wanted_by (V.numbering versioning.now) start.now allowance.old (seen l)) found.old.items }
-{
-    let mut kept = 0;
-    for at in 0..found.len() {
-        if is_wanted(versioning, start, allowance, &found[at]) {
-            found.swap(kept, at);
-            kept += 1;
-        }
-    }
-    found.truncate(kept);
-}
-
-// Puts the greatest first.
-fn rank<'a, V: Versioning>(versioning: &V, found: &mut Vec<Live<'a, V::Version>>)
-    ensures same { IsPermutation found.old.items found.new.items }
-    ensures falling { IsFalling (listed_cmp (V.numbering versioning.now)) (map seen found.new.items) }
-{
-    found.sort_unstable_by(|a, b| compare(versioning, b, a));
-}
-
-// The releases that are wanted, the greatest first.
-pub(crate) fn ranked<'a, V: Versioning>(
-    alloc: Global,
-    versioning: &V,
-    target: &Target<'_, V::Version, V::Range>,
-    mut found: Vec<Live<'a, V::Version>>,
-) -> Result<Vec<Live<'a, V::Version>>, AllocError>
-    ensures same { IfOk result (λ ranked. let n = V.numbering versioning.now in IsPermutation (filter (is_wanted n (aim_of target.now)) (map seen found.entry.items)) (map seen ranked.items)) }
-    ensures falling { IfOk result (λ ranked. IsFalling (listed_cmp (V.numbering versioning.now)) (map seen ranked.items)) }
-{
-    let mut allowance = allowance_of(alloc, versioning, &target.options.allowed)?;
-    keep_wanted(versioning, target.start, &mut allowance, &mut found);
-    rank(versioning, &mut found);
-    Ok(found)
 }

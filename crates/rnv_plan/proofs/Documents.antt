@@ -13,13 +13,18 @@ use Rattle.std.proofs.lemmas.Cmp.{nat_list_cmp_total}
 use Rattle.std.proofs.lemmas.List.Elements.{All-push, All-weaker, All-contains, Contains-append_left, Contains-append_right, Contains-push}
 use Rattle.std.proofs.lemmas.Map.Lookups.{exact_bytes}
 use Rattle.std.proofs.lemmas.Map.Views.{tells_apart, btree_set_contains_iff, All-insert_key}
+use Rattle.rnv_base.specs.declared.kinds.SourceKind.{SourceKind}
+use Rattle.rnv_base.specs.declared.kinds.SourceKind.TheVariants.{Crates, Npm, Docker}
 use Rattle.rnv_base.specs.Files.{NamedFile}
 use Rattle.rnv_pick.specs.declared.dep.Dep.{Dep}
+use Rattle.rnv_pick.specs.declared.listing.Listing.{Listing}
+use Rattle.rnv_pick.specs.Ranking.{IsListing}
 use Rattle.rnv_release.specs.declared.release.Release.{Release}
 use Rattle.rnv_release.specs.Index.{Index, absent, listed, too_long, bad, too_many}
 use Rattle.rnv_plan.specs.declared.error.RunError.{RunError}
 use Rattle.rnv_plan.specs.Gather.{index_for, is_sound, IsSound}
-use Rattle.rnv_plan.specs.Refusal.{IsFirstUnsound, HasUnsound, IsIndexRefusal}
+use Rattle.rnv_plan.specs.Listings.{AreOfSome}
+use Rattle.rnv_plan.specs.Refusal.{IsFirstUnsound, HasUnsoundOf, IsIndexRefusal}
 use Rattle.rnv_plan.specs.Packages.{AreNames, IsFirstUnsoundName, HasUnsoundName}
 use Rattle.rnv_plan.proofs.Rising.{below_one}
 
@@ -65,58 +70,85 @@ names_more ds names new d key same added inserted ordered h = record {
 
 -- ---- the first that is refused
 
-pub refusal-unsound : (name : List ℕ) (index : Index) (e : RunError) → IsIndexRefusal name index e → is_sound index ≡ false
-refusal-unsound name absent e cause = absurd cause
-refusal-unsound name (listed releases) e cause = absurd cause
-refusal-unsound name too_long e cause = refl
-refusal-unsound name (bad line) e cause = refl
-refusal-unsound name too_many e cause = refl
+pub refusal-unsound : (source : SourceKind) (name : List ℕ) (index : Index) (e : RunError) → IsIndexRefusal source name index e → is_sound index ≡ false
+refusal-unsound source name absent e cause = absurd cause
+refusal-unsound source name (listed releases) e cause = absurd cause
+refusal-unsound source name too_long e cause = refl
+refusal-unsound source name (bad line) e cause = refl
+refusal-unsound source name too_many e cause = refl
 
 Contains-next : (so_far left : List (List ℕ)) (name : List ℕ) → Contains (so_far ++ name ∷ left) name
 Contains-next so_far left name = Contains-append_right so_far (name ∷ left) name (0, omega arith, refl)
 
-pub first_refused : (files : List NamedFile) (names so_far rest left : List (List ℕ)) (name : List ℕ) → IsStrictlySortedBy (slice_cmp nat_cmp) names → so_far ++ rest ≡ names → rest ≡ name ∷ left → All (IsSound files) so_far → is_sound (index_for files name) ≡ false → IsFirstUnsoundName files names name
-first_refused files names so_far rest left name sorted parts step sound unsound =
+pub first_refused : (files : List NamedFile) (source : SourceKind) (names so_far rest left : List (List ℕ)) (name : List ℕ) → IsStrictlySortedBy (slice_cmp nat_cmp) names → so_far ++ rest ≡ names → rest ≡ name ∷ left → All (IsSound files source) so_far → is_sound (index_for files source name) ≡ false → IsFirstUnsoundName files source names name
+first_refused files source names so_far rest left name sorted parts step sound unsound =
     let whole : so_far ++ name ∷ left ≡ names = ap (λ r. so_far ++ r) (sym step) ∙ parts in
     record {
       among = subst (λ (ns : List (List ℕ)). Contains ns name) whole (Contains-next so_far left name);
       unsound = unsound;
-      before = subst (All (λ n. slice_cmp nat_cmp n name ≡ Less → IsSound files n)) whole
-          (below_one (λ n. n) (IsSound files) so_far name left (subst (IsStrictlySortedBy (slice_cmp nat_cmp)) (sym whole) sorted) sound);
+      before = subst (All (λ n. slice_cmp nat_cmp n name ≡ Less → IsSound files source n)) whole
+          (below_one (λ n. n) (IsSound files source) so_far name left (subst (IsStrictlySortedBy (slice_cmp nat_cmp)) (sym whole) sorted) sound);
     }
 
--- ---- the indexes of names
+-- ---- the listings of names
 
--- the indexes of some packages, all sound
-pub record AreRead (Sound : List ℕ → Type 0) (found : List ℕ → Option (List Release)) (names : List (List ℕ)) (indexes : BTreeMap (List ℕ) (List Release)) : Type 0 where
+-- the listings of some packages, all sound
+pub record AreFound (Sound : List ℕ → Type 0) (source : SourceKind) (found : List ℕ → Option (List Release)) (names : List (List ℕ)) (listings : BTreeMap (List ℕ) Listing) : Type 0 where
   pub sound : All Sound names
-  pub releases : All (λ name. get (slice_cmp nat_cmp) indexes name ≡ found name) names
-  pub others : (name : List ℕ) → (get (slice_cmp nat_cmp) indexes name ≡ None) ⊎ (get (slice_cmp nat_cmp) indexes name ≡ found name)
+  pub listed : All (λ name. IsListing source (found name) (get (slice_cmp nat_cmp) listings name)) names
+  pub others : (name : List ℕ) → (get (slice_cmp nat_cmp) listings name ≡ None) ⊎ IsListing source (found name) (get (slice_cmp nat_cmp) listings name)
 
-module _ (Sound : List ℕ → Type 0) (found : List ℕ → Option (List Release)) where
-  pub AreRead-absent : (names : List (List ℕ)) (indexes : BTreeMap (List ℕ) (List Release)) (name : List ℕ) → AreRead Sound found names indexes → Sound name → None ≡ found name → AreRead Sound found (names ++ name ∷ []) indexes
-  AreRead-absent names indexes name h sound none_there = record {
+-- a listing is that of its releases, and there is none without a document
+none_listed : (source : SourceKind) → IsListing source None None
+none_listed Crates = tt
+none_listed Npm = tt
+none_listed Docker = tt
+
+none_of : (source : SourceKind) (releases : Option (List Release)) (listing : Option Listing) → listing ≡ None → IsListing source releases None → IsListing source releases listing
+none_of source releases listing none is = subst (IsListing source releases) (sym none) is
+
+one_more : (m n : BTreeMap (List ℕ) Listing) (name : List ℕ) (listing : Listing) → Updates (slice_cmp nat_cmp) m n name (Some listing) → (q : List ℕ)
+    → ((name ≡ q) × (get (slice_cmp nat_cmp) n q ≡ Some listing)) ⊎ (get (slice_cmp nat_cmp) n q ≡ get (slice_cmp nat_cmp) m q)
+one_more m n name listing added q =
+    ⊎_elim
+    (λ here. inl (tells_apart exact_bytes name q here, added.0 q ∙ ap (λ b. cond b (Some listing) (get (slice_cmp nat_cmp) m q)) here))
+    (λ apart. inr (added.2 q apart))
+    (cases_Bool (is_at (slice_cmp nat_cmp name) q))
+
+pub some_more : (source : SourceKind) (m n : BTreeMap (List ℕ) Listing) (name : List ℕ) (listing : Listing) → AreOfSome source m
+    → (releases : Option (List Release)) × IsListing source releases (Some listing) → Updates (slice_cmp nat_cmp) m n name (Some listing) → AreOfSome source n
+some_more source m n name listing some here added q = elim (one_more m n name listing added q) [
+  | inl same ↦ (here.0, subst (IsListing source here.0) (sym same.1) here.1)
+  | inr kept ↦ let one = some q in (one.0, subst (IsListing source one.0) (sym kept) one.1)
+]
+
+pub some_none : (source : SourceKind) (m : BTreeMap (List ℕ) Listing) → ((q : List ℕ) → get (slice_cmp nat_cmp) m q ≡ None) → AreOfSome source m
+some_none source m empty q = let missing : Option (List Release) = None in (missing, subst (IsListing source missing) (sym (empty q)) (none_listed source))
+
+module _ (Sound : List ℕ → Type 0) (source : SourceKind) (found : List ℕ → Option (List Release)) where
+  pub AreFound-absent : (names : List (List ℕ)) (listings : BTreeMap (List ℕ) Listing) (name : List ℕ) → AreFound Sound source found names listings → Sound name → IsListing source (found name) None → AreFound Sound source found (names ++ name ∷ []) listings
+  AreFound-absent names listings name h sound none_there = record {
     sound = All-push Sound names name h.sound sound;
-    releases = All-push (λ n. get (slice_cmp nat_cmp) indexes n ≡ found n) names name h.releases (⊎_elim (λ none. none ∙ none_there) (λ told. told) (h.others name));
+    listed = All-push (λ n. IsListing source (found n) (get (slice_cmp nat_cmp) listings n)) names name h.listed (⊎_elim (λ none. none_of source (found name) (get (slice_cmp nat_cmp) listings name) none none_there) (λ told. told) (h.others name));
     others = h.others;
   }
 
-  one_more : (m n : BTreeMap (List ℕ) (List Release)) (name : List ℕ) (releases : List Release) → Updates (slice_cmp nat_cmp) m n name (Some releases) → Some releases ≡ found name → (q : List ℕ) → (get (slice_cmp nat_cmp) n q ≡ found q) ⊎ (get (slice_cmp nat_cmp) n q ≡ get (slice_cmp nat_cmp) m q)
-  one_more m n name releases added told q =
-      ⊎_elim
-      (λ here. inl (added.0 q ∙ (ap (λ b. cond b (Some releases) (get (slice_cmp nat_cmp) m q)) here ∙ (told ∙ ap found (tells_apart exact_bytes name q here)))))
-      (λ apart. inr (added.2 q apart))
-      (cases_Bool (is_at (slice_cmp nat_cmp name) q))
+  step : (m n : BTreeMap (List ℕ) Listing) (name : List ℕ) (listing : Listing) → Updates (slice_cmp nat_cmp) m n name (Some listing) → IsListing source (found name) (Some listing) → (q : List ℕ)
+      → IsListing source (found q) (get (slice_cmp nat_cmp) n q) ⊎ (get (slice_cmp nat_cmp) n q ≡ get (slice_cmp nat_cmp) m q)
+  step m n name listing added told q = ⊎_elim
+      (λ (same : (name ≡ q) × (get (slice_cmp nat_cmp) n q ≡ Some listing)). inl (subst (IsListing source (found q)) (sym same.1) (subst (λ (p : List ℕ). IsListing source (found p) (Some listing)) same.0 told)))
+      (λ kept. inr kept)
+      (one_more m n name listing added q)
 
-  pub AreRead-listed : (names : List (List ℕ)) (indexes more : BTreeMap (List ℕ) (List Release)) (name : List ℕ) (releases : List Release) → AreRead Sound found names indexes → Sound name → Some releases ≡ found name → Updates (slice_cmp nat_cmp) indexes more name (Some releases) → AreRead Sound found (names ++ name ∷ []) more
-  AreRead-listed names indexes more name releases h sound told added =
-      let step = one_more indexes more name releases added told in
+  pub AreFound-listed : (names : List (List ℕ)) (listings more : BTreeMap (List ℕ) Listing) (name : List ℕ) (listing : Listing) → AreFound Sound source found names listings → Sound name → IsListing source (found name) (Some listing) → Updates (slice_cmp nat_cmp) listings more name (Some listing) → AreFound Sound source found (names ++ name ∷ []) more
+  AreFound-listed names listings more name listing h sound told added =
+      let Lists : List ℕ → BTreeMap (List ℕ) Listing → Type 0 = λ q m. IsListing source (found q) (get (slice_cmp nat_cmp) m q) in
       record {
         sound = All-push Sound names name h.sound sound;
-        releases = All-push (λ n. get (slice_cmp nat_cmp) more n ≡ found n) names name
-            (λ k d l. ⊎_elim (λ here. here) (λ kept. kept ∙ h.releases k d l) (step (get_or names k d)))
-            (added.1 ∙ told);
-        others = λ q. ⊎_elim (λ here. inr here) (λ kept. ⊎_elim (λ none. inl (kept ∙ none)) (λ same. inr (kept ∙ same)) (h.others q)) (step q);
+        listed = All-push (λ q. IsListing source (found q) (get (slice_cmp nat_cmp) more q)) names name
+            (λ k d l. ⊎_elim (λ here. here) (λ kept. subst (IsListing source (found (get_or names k d))) (sym kept) (h.listed k d l)) (step listings more name listing added told (get_or names k d)))
+            (subst (IsListing source (found name)) (sym added.1) told);
+        others = λ q. ⊎_elim (λ here. inr here) (λ kept. ⊎_elim (λ none. inl (kept ∙ none)) (λ same. inr (subst (IsListing source (found q)) (sym kept) same)) (h.others q)) (step listings more name listing added told q);
       }
 
 -- ---- from the names of packages to dependencies
@@ -128,12 +160,12 @@ All-packages P deps names h held =
     (λ d has. All-contains P (keys names) d.«package» held ((btree_set_contains_iff nat_list_cmp_total exact_bytes names d.«package»).0 has))
     deps h.every
 
-first-deps : (files : List NamedFile) (deps : List Dep) (names : BTreeSet (List ℕ)) (name : List ℕ) → AreNames deps names → IsFirstUnsoundName files (keys names) name → IsFirstUnsound files deps name
-first-deps files deps names name h first = record {
+first-deps : (files : List NamedFile) (source : SourceKind) (deps : List Dep) (names : BTreeSet (List ℕ)) (name : List ℕ) → AreNames deps names → IsFirstUnsoundName files source (keys names) name → IsFirstUnsound files source deps name
+first-deps files source deps names name h first = record {
   among = All-contains (λ n. Any (λ d. d.«package» ≡ n) deps) (keys names) name h.each first.among;
   unsound = first.unsound;
-  before = All-packages (λ n. slice_cmp nat_cmp n name ≡ Less → IsSound files n) deps names h first.before;
+  before = All-packages (λ n. slice_cmp nat_cmp n name ≡ Less → IsSound files source n) deps names h first.before;
 }
 
-pub unsound-deps : (files : List NamedFile) (deps : List Dep) (names : BTreeSet (List ℕ)) (error : RunError) → AreNames deps names → HasUnsoundName files (keys names) error → HasUnsound files deps error
-unsound-deps files deps names error h refused = record { name = refused.name; first = first-deps files deps names refused.name h refused.first; cause = refused.cause }
+pub unsound-deps : (files : List NamedFile) (source : SourceKind) (deps : List Dep) (names : BTreeSet (List ℕ)) (error : RunError) → AreNames deps names → HasUnsoundName files source (keys names) error → HasUnsoundOf files source deps error
+unsound-deps files source deps names error h refused = record { name = refused.name; first = first-deps files source deps names refused.name h refused.first; cause = refused.cause }

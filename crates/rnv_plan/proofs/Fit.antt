@@ -4,6 +4,7 @@ use Rattle.std.specs.Prelude.{filter}
 use Rattle.std.specs.List.{All, Contains}
 use Rattle.std.proofs.lemmas.List.Elements.{All-filter, All-contains_itself}
 use Rattle.rnv_base.specs.declared.kinds.ManagerKind.{ManagerKind}
+use Rattle.rnv_base.specs.declared.kinds.SourceKind.{SourceKind}
 use Rattle.rnv_repo.specs.Files.{MarkedFile}
 use Rattle.rnv_repo.specs.Named.{IsRisingBy}
 use Rattle.rnv_release.specs.declared.release.Release.{Release}
@@ -22,9 +23,9 @@ use Rattle.rnv_plan.proofs.Zips.{zip_each, zip_map}
 
 -- ---- each update is of its dependency
 
-own-dep : (moment : ℕ) (look : List ℕ → Option (List Release)) (d : Dep) (p : PickedDep) → IsPickedDep moment look d p → All (λ u. u.dep ≡ with_current p.dep p.picked.current) p.picked.updates
+own-dep : (moment : ℕ) (look : SourceKind → List ℕ → Option (List Release)) (d : Dep) (p : PickedDep) → IsPickedDep moment look d p → All (λ u. u.dep ≡ with_current p.dep p.picked.current) p.picked.updates
 own-dep moment look d p picked =
-    subst (λ (e : Dep). All (λ u. u.dep ≡ with_current e p.picked.current) p.picked.updates) (sym picked.dep) (own_from d.source plain moment d (look d.«package») p.picked picked.picked)
+    subst (λ (e : Dep). All (λ u. u.dep ≡ with_current e p.picked.current) p.picked.updates) (sym picked.dep) (own_from d.source plain moment d (look d.source d.«package») p.picked picked.picked)
 
 -- ---- each file is one of the base
 
@@ -33,7 +34,7 @@ record IsFrom (base : List MarkedFile) (t : TakenFile) : Type 0 where
   there : Contains base file
   taken : IsTaken file t
 
-of-file : (moment : ℕ) (look : List ℕ → Option (List Release)) (base : List MarkedFile) (t : TakenFile) (p : PickedFile) → IsFrom base t → IsPickedFile moment look t p → IsPickedOf base p
+of-file : (moment : ℕ) (look : SourceKind → List ℕ → Option (List Release)) (base : List MarkedFile) (t : TakenFile) (p : PickedFile) → IsFrom base t → IsPickedFile moment look t p → IsPickedOf base p
 of-file moment look base t p from picked =
     let deps : map (λ (d : PickedDep). d.dep) p.deps ≡ t.deps = zip_map (IsPickedDep moment look) (λ (d : PickedDep). d.dep) (λ d q here. here.dep) t.deps p.deps picked.deps in
     record {

@@ -1,5 +1,6 @@
 pub mod Ascii
 pub mod Bases
+pub mod BySource
 pub mod Documents
 pub mod Finds
 pub mod Fit

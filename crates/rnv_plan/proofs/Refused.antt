@@ -1,5 +1,5 @@
 -- A base that is gathered has no refusal, and no base has two.
-use Rattle.std.proofs.Common.{◌≡◌, ℕ, List, Bool, true, false, length, refl, sym, ◌∙◌, ap, subst, arith}
+use Rattle.std.proofs.Common.{◌≡◌, ℕ, ◌<◌, List, Bool, true, false, length, refl, sym, ◌∙◌, ap, subst, arith}
 use Rattle.std.specs.List.{All, Any}
 use Rattle.std.specs.Ordering.{nat_cmp, ordering_reverse, is_eq}
 use Rattle.std.specs.Cmp.Lexicographic.{slice_cmp}
@@ -9,6 +9,7 @@ use Rattle.std.proofs.lemmas.Cmp.{nat_list_cmp_total}
 use Rattle.std.proofs.lemmas.List.Elements.{All-contains}
 use Rattle.std.proofs.lemmas.Map.Lookups.{exact_bytes}
 use Rattle.std.proofs.lemmas.Map.Views.{tells_apart}
+use Rattle.rnv_base.specs.declared.kinds.SourceKind.{SourceKind}
 use Rattle.rnv_base.specs.Files.{NamedFile}
 use Rattle.rnv_repo.specs.Files.{MarkedFile}
 use Rattle.rnv_release.specs.Index.{Index, absent, listed, too_long, bad, too_many}
@@ -18,7 +19,9 @@ use Rattle.rnv_plan.specs.declared.inputs.PickedFile.{PickedFile}
 use Rattle.rnv_plan.specs.declared.taken.TakenFile.{TakenFile}
 use Rattle.rnv_plan.specs.Taken.{deps_in, readable_in, is_built, is_configured}
 use Rattle.rnv_plan.specs.Gather.{AreFew, IsGathered, index_for, is_sound, IsSound}
-use Rattle.rnv_plan.specs.Refusal.{HaveMany, IsFirstUnbuilt, IsFirstUnsound, HasUnsound, IsIndexRefusal, IsRefusal, many_dependencies, configured, unbuilt, refused_document}
+use Rattle.rnv_plan.specs.Refusal.{HaveMany, IsFirstUnbuilt, IsFirstUnsound, HasUnsound, HasUnsoundOf, IsIndexRefusal, IsRefusal, many_dependencies, configured, unbuilt, refused_document}
+use Rattle.rnv_plan.specs.Sources.{from, place}
+use Rattle.rnv_plan.proofs.BySource.{among_from, one_source}
 use Rattle.rnv_plan.proofs.TakenFiles.{taken-one}
 
 true-false : (b : Bool) → b ≡ true → b ≡ false → ⊥
@@ -28,11 +31,12 @@ true-false b is_so not_so = cc
 clash : {X : Type 0} (key : X → List ℕ) (test : X → Bool) (xs : List X) (name : List ℕ) → All (λ x. test x ≡ true) xs → Any (λ x. (key x ≡ name) × (test x ≡ false)) xs → ⊥
 clash key test xs name each (k, x, l, is, p) = true-false (test x) (All-contains (λ y. test y ≡ true) xs x each (k, l, is)) p.1
 
-sound-clash : (files : List NamedFile) (deps : List Dep) (name : List ℕ) → All (λ d. IsSound files d.«package») deps → IsFirstUnsound files deps name → ⊥
-sound-clash files deps name each first =
-    let some = first.among in
-    let here = All-contains (λ d. IsSound files d.«package») deps some.1 each (some.0, some.2, some.3) in
-    true-false (is_sound (index_for files name)) (subst (λ (n : List ℕ). is_sound (index_for files n) ≡ true) some.4 here) first.unsound
+sound-clash : (files : List NamedFile) (s : SourceKind) (deps : List Dep) (name : List ℕ) → All (λ d. IsSound files d.source d.«package») deps → IsFirstUnsound files s (from s deps) name → ⊥
+sound-clash files s deps name each first =
+    let some = among_from s deps name first.among in
+    let here = All-contains (λ d. IsSound files d.source d.«package») deps some.1 each (some.0, some.2, some.3) in
+    true-false (is_sound (index_for files s name))
+    (subst (λ (n : List ℕ). is_sound (index_for files s n) ≡ true) some.4.1 (subst (λ (t : SourceKind). is_sound (index_for files t some.1.«package») ≡ true) some.4.0 here)) first.unsound
 
 few-many : (base : List MarkedFile) (ts : List TakenFile) → AreFew base ts → HaveMany base → ⊥
 few-many base ts few many =
@@ -48,7 +52,7 @@ gathered-fine files moment base picked g e (configured ts few is_so same) = true
 gathered-fine files moment base picked g e (unbuilt ts few not_so path first same) =
     clash (λ (t : TakenFile). t.path) is_built ts path (subst (All (λ t. is_built t ≡ true)) (few-one base g.taken ts g.built.few few) g.built.built) first.among
 gathered-fine files moment base picked g e (refused_document ts built refused) =
-    sound-clash files (readable_in ts) refused.name (subst (λ (us : List TakenFile). All (λ d. IsSound files d.«package») (readable_in us)) (few-one base g.taken ts g.built.few built.few) g.sound) refused.first
+    sound-clash files refused.source (readable_in ts) refused.here.name (subst (λ (us : List TakenFile). All (λ d. IsSound files d.source d.«package») (readable_in us)) (few-one base g.taken ts g.built.few built.few) g.sound) refused.here.first
 
 -- ---- the first by bytes is one
 
@@ -69,26 +73,42 @@ unbuilt-one ts p q a b =
     (first-below (λ (t : TakenFile). t.path) is_built ts q p b.among a.before)
     (slice_cmp nat_cmp p q) refl
 
-unsound-below : (files : List NamedFile) (deps : List Dep) (p q : List ℕ) → IsFirstUnsound files deps p → IsFirstUnsound files deps q → slice_cmp nat_cmp p q ≡ Less → ⊥
-unsound-below files deps p q a b below =
-    let some = a.among in
-    let here = All-contains (λ d. slice_cmp nat_cmp d.«package» q ≡ Less → IsSound files d.«package») deps some.1 b.before (some.0, some.2, some.3) in
-    let sound = here (subst (λ (n : List ℕ). slice_cmp nat_cmp n q ≡ Less) (sym some.4) below) in
-    true-false (is_sound (index_for files p)) (subst (λ (n : List ℕ). is_sound (index_for files n) ≡ true) some.4 sound) a.unsound
+module _ (files : List NamedFile) (s : SourceKind) (deps : List Dep) where
+  unsound-below : (p q : List ℕ) → IsFirstUnsound files s deps p → IsFirstUnsound files s deps q → slice_cmp nat_cmp p q ≡ Less → ⊥
+  unsound-below p q a b below =
+      let some = a.among in
+      let here = All-contains (λ d. slice_cmp nat_cmp d.«package» q ≡ Less → IsSound files s d.«package») deps some.1 b.before (some.0, some.2, some.3) in
+      let sound = here (subst (λ (n : List ℕ). slice_cmp nat_cmp n q ≡ Less) (sym some.4) below) in
+      true-false (is_sound (index_for files s p)) (subst (λ (n : List ℕ). is_sound (index_for files s n) ≡ true) some.4 sound) a.unsound
 
-name-one : (files : List NamedFile) (deps : List Dep) (p q : List ℕ) → IsFirstUnsound files deps p → IsFirstUnsound files deps q → p ≡ q
-name-one files deps p q a b = same-name p q (unsound-below files deps p q a b) (unsound-below files deps q p b a) (slice_cmp nat_cmp p q) refl
+  name-one : (p q : List ℕ) → IsFirstUnsound files s deps p → IsFirstUnsound files s deps q → p ≡ q
+  name-one p q a b = same-name p q (unsound-below p q a b) (unsound-below q p b a) (slice_cmp nat_cmp p q) refl
 
-cause-one : (name : List ℕ) (index : Index) (e f : RunError) → IsIndexRefusal name index e → IsIndexRefusal name index f → e ≡ f
-cause-one name absent e f a b = absurd a
-cause-one name (listed releases) e f a b = absurd a
-cause-one name too_long e f a b = a ∙ sym b
-cause-one name (bad line) e f a b = a ∙ sym b
-cause-one name too_many e f a b = a ∙ sym b
+cause-one : (s : SourceKind) (name : List ℕ) (index : Index) (e f : RunError) → IsIndexRefusal s name index e → IsIndexRefusal s name index f → e ≡ f
+cause-one s name absent e f a b = absurd a
+cause-one s name (listed releases) e f a b = absurd a
+cause-one s name too_long e f a b = a ∙ sym b
+cause-one s name (bad line) e f a b = a ∙ sym b
+cause-one s name too_many e f a b = a ∙ sym b
+
+unsound-of : (files : List NamedFile) (s : SourceKind) (deps : List Dep) (e f : RunError) → HasUnsoundOf files s deps e → HasUnsoundOf files s deps f → e ≡ f
+unsound-of files s deps e f a b =
+    cause-one s b.name (index_for files s b.name) e f (subst (λ (n : List ℕ). IsIndexRefusal s n (index_for files s n) e) (name-one files s deps a.name b.name a.first b.first) a.cause) b.cause
+
+-- no source before that of the one is that of the other
+source-below : (files : List NamedFile) (deps : List Dep) (e f : RunError) (a : HasUnsound files deps e) (b : HasUnsound files deps f) → place a.source < place b.source → ⊥
+source-below files deps e f a b below =
+    let some = among_from a.source deps a.here.name a.here.first.among in
+    let sound = All-contains (λ d. place d.source < place b.source → IsSound files d.source d.«package») deps some.1 b.before (some.0, some.2, some.3) (subst (λ (t : SourceKind). place t < place b.source) (sym some.4.0) below) in
+    true-false (is_sound (index_for files a.source a.here.name))
+    (subst (λ (n : List ℕ). is_sound (index_for files a.source n) ≡ true) some.4.1 (subst (λ (t : SourceKind). is_sound (index_for files t some.1.«package») ≡ true) some.4.0 sound)) a.here.first.unsound
+
+unsound-at : (files : List NamedFile) (deps : List Dep) (e f : RunError) (s t : SourceKind) → s ≡ t → HasUnsoundOf files s (from s deps) e → HasUnsoundOf files t (from t deps) f → e ≡ f
+unsound-at files deps e f s t same a b = unsound-of files t (from t deps) e f (subst (λ (u : SourceKind). HasUnsoundOf files u (from u deps) e) same a) b
 
 unsound-one : (files : List NamedFile) (deps : List Dep) (e f : RunError) → HasUnsound files deps e → HasUnsound files deps f → e ≡ f
 unsound-one files deps e f a b =
-    cause-one b.name (index_for files b.name) e f (subst (λ (n : List ℕ). IsIndexRefusal n (index_for files n) e) (name-one files deps a.name b.name a.first b.first) a.cause) b.cause
+    unsound-at files deps e f a.source b.source (one_source a.source b.source (source-below files deps e f a b) (source-below files deps f e b a)) a.here b.here
 
 -- ---- one refusal
 

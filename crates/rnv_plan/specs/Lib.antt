@@ -5,6 +5,8 @@ pub mod Named
 pub mod Groups
 pub mod Managers
 pub mod Taken
+pub mod Sources
+pub mod Listings
 pub mod Plain
 pub mod Gather
 pub mod Refusal

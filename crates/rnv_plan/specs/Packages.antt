@@ -5,6 +5,7 @@ use Rattle.std.specs.BTreeSet.{BTreeSet, contains, keys, IsOrdered}
 use Rattle.std.specs.Ordering.{nat_cmp}
 use Rattle.std.specs.Cmp.Lexicographic.{slice_cmp}
 use Rattle.std.specs.declared.cmp.Ordering.TheVariants.{Less}
+use Rattle.rnv_base.specs.declared.kinds.SourceKind.{SourceKind}
 use Rattle.rnv_base.specs.Files.{NamedFile}
 use Rattle.rnv_pick.specs.declared.dep.Dep.{Dep}
 use Rattle.rnv_plan.specs.declared.error.RunError.{RunError}
@@ -18,13 +19,13 @@ pub record AreNames (deps : List Dep) (names : BTreeSet (List ℕ)) : Type 0 whe
   pub rising : IsOrdered (slice_cmp nat_cmp) names
 
 -- the first of these names whose document is refused
-pub record IsFirstUnsoundName (files : List NamedFile) (names : List (List ℕ)) (name : List ℕ) : Type 0 where
+pub record IsFirstUnsoundName (files : List NamedFile) (source : SourceKind) (names : List (List ℕ)) (name : List ℕ) : Type 0 where
   pub among : Contains names name
-  pub unsound : is_sound (index_for files name) ≡ false
-  pub before : All (λ n. slice_cmp nat_cmp n name ≡ Less → IsSound files n) names
+  pub unsound : is_sound (index_for files source name) ≡ false
+  pub before : All (λ n. slice_cmp nat_cmp n name ≡ Less → IsSound files source n) names
 
 -- and why it is refused
-pub record HasUnsoundName (files : List NamedFile) (names : List (List ℕ)) (error : RunError) : Type 0 where
+pub record HasUnsoundName (files : List NamedFile) (source : SourceKind) (names : List (List ℕ)) (error : RunError) : Type 0 where
   pub name : List ℕ
-  pub first : IsFirstUnsoundName files names name
-  pub cause : IsIndexRefusal name (index_for files name) error
+  pub first : IsFirstUnsoundName files source names name
+  pub cause : IsIndexRefusal source name (index_for files source name) error

@@ -4,15 +4,17 @@ use Rattle.std.specs.List.{All, Any}
 use Rattle.std.specs.Ordering.{nat_cmp}
 use Rattle.std.specs.Cmp.Lexicographic.{slice_cmp}
 use Rattle.std.specs.declared.cmp.Ordering.TheVariants.{Less}
+use Rattle.rnv_base.specs.declared.kinds.SourceKind.{SourceKind}
 use Rattle.rnv_base.specs.Files.{NamedFile}
 use Rattle.rnv_base.specs.Limits.{document_bytes, most_dependencies, most_releases}
 use Rattle.rnv_repo.specs.Files.{MarkedFile}
-use Rattle.rnv_release.specs.Npm.{npm_path}
+use Rattle.rnv_release.specs.Sources.{path_by}
 use Rattle.rnv_release.specs.Index.{Index, absent, listed, too_long, bad, too_many}
 use Rattle.rnv_pick.specs.declared.dep.Dep.{Dep}
 use Rattle.rnv_plan.specs.declared.error.RunError.{RunError}
 use Rattle.rnv_plan.specs.declared.error.RunError.TheVariants.{Memory, FolderFault, DiskFault, UnknownRepo, NotBuilt, Limit, IndexRefused}
 use Rattle.rnv_plan.specs.declared.taken.TakenFile.{TakenFile}
+use Rattle.rnv_plan.specs.Sources.{from, place}
 use Rattle.rnv_plan.specs.Taken.{AreTaken, deps_in, readable_in, is_configured, is_built}
 use Rattle.rnv_plan.specs.Gather.{AreFew, AreBuilt, index_for, is_sound, IsSound}
 
@@ -37,26 +39,32 @@ pub record IsFirstUnbuilt (taken : List TakenFile) (path : List ℕ) : Type 0 wh
   pub among : Any (λ t. (t.path ≡ path) × (is_built t ≡ false)) taken
   pub before : All (λ t. slice_cmp nat_cmp t.path path ≡ Less → is_built t ≡ true) taken
 
--- the first package by its name whose document is refused
-pub record IsFirstUnsound (files : List NamedFile) (deps : List Dep) (name : List ℕ) : Type 0 where
+-- the first package of a source, by its name, whose document is refused
+pub record IsFirstUnsound (files : List NamedFile) (source : SourceKind) (deps : List Dep) (name : List ℕ) : Type 0 where
   pub among : Any (λ d. d.«package» ≡ name) deps
-  pub unsound : is_sound (index_for files name) ≡ false
-  pub before : All (λ d. slice_cmp nat_cmp d.«package» name ≡ Less → IsSound files d.«package») deps
+  pub unsound : is_sound (index_for files source name) ≡ false
+  pub before : All (λ d. slice_cmp nat_cmp d.«package» name ≡ Less → IsSound files source d.«package») deps
 
 -- why the document of a package is refused: it has more than 67,108,864 bytes, a line outside the
 -- grammar, or more than 50,000 releases
-abbrev pub IsIndexRefusal : List ℕ → Index → RunError → Type 0
-IsIndexRefusal name absent error = ⊥
-IsIndexRefusal name (listed releases) error = ⊥
-IsIndexRefusal name too_long error = error ≡ Limit (codes "document") document_bytes
-IsIndexRefusal name (bad line) error = error ≡ IndexRefused (npm_path name) line
-IsIndexRefusal name too_many error = error ≡ Limit (codes "releases") most_releases
+abbrev pub IsIndexRefusal : SourceKind → List ℕ → Index → RunError → Type 0
+IsIndexRefusal source name absent error = ⊥
+IsIndexRefusal source name (listed releases) error = ⊥
+IsIndexRefusal source name too_long error = error ≡ Limit (codes "document") document_bytes
+IsIndexRefusal source name (bad line) error = error ≡ IndexRefused (path_by source name) line
+IsIndexRefusal source name too_many error = error ≡ Limit (codes "releases") most_releases
 
--- the first document by its package's name that is refused, and why
-pub record HasUnsound (files : List NamedFile) (deps : List Dep) (error : RunError) : Type 0 where
+-- the first document of a source, by its package's name, that is refused, and why
+pub record HasUnsoundOf (files : List NamedFile) (source : SourceKind) (deps : List Dep) (error : RunError) : Type 0 where
   pub name : List ℕ
-  pub first : IsFirstUnsound files deps name
-  pub cause : IsIndexRefusal name (index_for files name) error
+  pub first : IsFirstUnsound files source deps name
+  pub cause : IsIndexRefusal source name (index_for files source name) error
+
+-- the first document that is refused, by its source and then by its package's name, and why
+pub record HasUnsound (files : List NamedFile) (deps : List Dep) (error : RunError) : Type 0 where
+  pub source : SourceKind
+  pub before : All (λ d. place d.source < place source → IsSound files d.source d.«package») deps
+  pub here : HasUnsoundOf files source (from source deps) error
 
 -- the causes in their order, each where none before it holds
 pub data IsRefusal (files : List NamedFile) (base : List MarkedFile) (error : RunError) : Type 0 where

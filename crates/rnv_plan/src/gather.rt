@@ -1,6 +1,7 @@
 ghost use Rattle.std.specs.Prelude.{◌≡◌, ◌≢◌, ℕ, List as Items, Option, map, IfOk, IfErr, OnOk};
 ghost use Rattle.std.specs.List.{All};
 ghost use Rattle.rnv_base.specs.Causes.{FaultsBy};
+ghost use Rattle.rnv_base.specs.declared.kinds.SourceKind.{SourceKind};
 ghost use Rattle.rnv_repo.specs.Named.{IsRisingBy};
 ghost use Rattle.rnv_repo.specs.WellFormed.{AreInOrder};
 ghost use Rattle.rnv_release.specs.declared.release.Release.{Release as OfRelease};
@@ -29,8 +30,8 @@ fn gather_taken<O: Folder>(
     taken: List<TakenFile>,
     moment: u64,
 ) -> Result<List<PickedFile>, RunError>
-    ensures gathered { O.tells → IfOk result (λ picked. All (λ d. IsSound (O.files folder.old) d.«package») (readable_in taken) × ArePicked moment (releases_for (O.files folder.old)) taken picked) }
-    ensures picked { IfOk result (λ picked. (releases : Items ℕ → Option (Items OfRelease)) × ArePicked moment releases taken picked) }
+    ensures gathered { O.tells → IfOk result (λ picked. All (λ d. IsSound (O.files folder.old) d.source d.«package») (readable_in taken) × ArePicked moment (releases_for (O.files folder.old)) taken picked) }
+    ensures picked { IfOk result (λ picked. (releases : SourceKind → Items ℕ → Option (Items OfRelease)) × ArePicked moment releases taken picked) }
     ensures refused { O.tells → IfErr result (IfTold (HasUnsound (O.files folder.old) (readable_in taken))) }
     ensures same { O.tells → (O.files folder.new ≡ O.files folder.old) }
     ensures cause { FaultsBy (O.faults folder.old) (O.faults folder.new) result RunError.FolderFault }
@@ -83,10 +84,11 @@ fn inputs(
 
 /// The inputs of a run of a repository with these files, which stand by path, for the configuration
 /// `{}`: per file that npm takes (`package.json` in any folder) its dependencies in turn, each with its
-/// current version, why it is skipped, and its updates from the folder's index of npm packages; other
-/// files are passed over. A document is read for the dependencies whose value is a range alone. The first of these that
+/// current version, why it is skipped, and its updates from the folder's index; other files are
+/// passed over. A document is read for the dependencies whose value is a range alone. The first of these that
 /// holds is the refusal: `Limit` of the dependencies above 20,000 together; `NotBuilt` of
-/// `renovate.json`; `NotBuilt` of the first path by its bytes that Cargo or Docker takes; then per package by its name `FolderFault` only where the folder's count of faults
+/// `renovate.json`; `NotBuilt` of the first path by its bytes that Cargo or Docker takes; then per source (crates, npm, Docker) and
+/// per package by its name `FolderFault` only where the folder's count of faults
 /// rose, `Limit` of its document above 67,108,864 bytes, `IndexRefused` where this is outside its grammar,
 /// `Limit` of its releases above 50,000. `Memory` may come at any point.
 pub fn gather_base<O: Folder>(

@@ -1,21 +1,14 @@
 ghost use Rattle.std.specs.Prelude.{◌≡◌, IfOk};
 ghost use Rattle.std.specs.List.{AllZip};
-ghost use Rattle.std.specs.BTreeMap.{get};
-ghost use Rattle.std.specs.Ordering.{nat_cmp};
-ghost use Rattle.std.specs.Cmp.Lexicographic.{slice_cmp};
-ghost use Rattle.rnv_plan.specs.Gather.{ArePicked, IsPickedDep};
+ghost use Rattle.rnv_plan.specs.Listings.{AreRead, IsFileHere, IsPickedHere};
 
 use crate::defaults::Defaults;
+use crate::indexes::Indexes;
 use crate::taken::TakenFile;
 use crate::{PickedDep, PickedFile};
-use rnv_base::{List, Text};
+use rnv_base::List;
 use rnv_pick::{Dep, updates};
-use rnv_release::Release;
 use std::alloc::{AllocError, Global};
-use std::collections::BTreeMap;
-
-// The releases of packages by their names.
-pub(crate) type Indexes = BTreeMap<Text, List<Release>>;
 
 // The dependencies in turn, each with what is picked for it at the moment. Only memory can fail.
 fn pick_deps(
@@ -24,11 +17,13 @@ fn pick_deps(
     indexes: &Indexes,
     moment: u64,
 ) -> Result<List<PickedDep>, AllocError>
-    ensures { IfOk result (AllZip (IsPickedDep moment (λ name. get (slice_cmp nat_cmp) indexes.now name)) deps) }
+    requires { AreRead indexes.now }
+    ensures { IfOk result (AllZip (IsPickedHere moment indexes.now) deps) }
 {
     let mut picked = List::empty(alloc);
     for dep in deps.into_inner() {
-        let one = updates(alloc, &dep, indexes.get(&dep.package), &Defaults, moment)?;
+        let listing = indexes.listing(dep.source, &dep.package);
+        let one = updates(alloc, &dep, listing, &Defaults, moment)?;
         picked.push(PickedDep { dep, picked: one })?;
     }
     Ok(picked)
@@ -41,7 +36,8 @@ pub(crate) fn pick_files(
     indexes: &Indexes,
     moment: u64,
 ) -> Result<List<PickedFile>, AllocError>
-    ensures { IfOk result (ArePicked moment (λ name. get (slice_cmp nat_cmp) indexes.now name) taken) }
+    requires { AreRead indexes.now }
+    ensures { IfOk result (AllZip (IsFileHere moment indexes.now) taken) }
 {
     let mut picked = List::empty(alloc);
     for file in taken.into_inner() {

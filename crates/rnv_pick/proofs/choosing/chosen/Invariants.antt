@@ -7,4 +7,8 @@ abbrev pub invariant-loop-live : goal.invariant-loop-live
 invariant-loop-live g l =
     let n = g.V.Versioning.numbering l.versioning in
     let o = g.O.Rules.options l.rules in
-    chosen_from n o l.moment (aim_of l.target) l.bucket l.top (drop l.live-index (map seen l.ranked)) ≡ chosen_from n o l.moment (aim_of l.target) l.bucket None (map seen l.ranked)
+    let allowance = l.initial.allowance in
+    record {
+      rest : chosen_from n o l.moment (aim_of l.target) l.bucket allowance l.top (drop l.live-index (map seen l.found)) ≡ chosen_from n o l.moment (aim_of l.target) l.bucket allowance None (map seen l.found);
+      same : l.allowance ≡ allowance;
+    }

@@ -9,4 +9,7 @@ abbrev pub invariant-loop-bucket : goal.invariant-loop-bucket
 invariant-loop-bucket g l =
     let n = g.V.Versioning.numbering l.versioning in
     let o = g.O.Rules.options l.rules in
-    l.updates ≡ flat_map (λ b. updates_to l.target.dep.now l.target.options.now (chosen_from n o l.moment (aim_of l.target) b None (map seen l.ranked))) (take l.bucket-index l.all)
+    record {
+      updates : l.updates ≡ flat_map (λ b. updates_to l.target.dep.now l.target.options.now (chosen_from n o l.moment (aim_of l.target) b l.initial.allowance None (map seen l.found))) (take l.bucket-index l.all);
+      same : l.allowance ≡ l.initial.allowance;
+    }

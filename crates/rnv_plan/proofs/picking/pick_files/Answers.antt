@@ -1,10 +1,7 @@
-use Rattle.std.specs.BTreeMap.{get}
-use Rattle.std.specs.Ordering.{nat_cmp}
-use Rattle.std.specs.Cmp.Lexicographic.{slice_cmp}
 use Rattle.rnv_plan.proofs.Picks.{file_picked}
 use Rattle.rnv_plan.proofs.picking.pick_files.Goals as goal
 
 pub loop-file-preserved : goal.loop-file-preserved
 loop-file-preserved c =
-    let more = file_picked c.args.moment (λ name. get (slice_cmp nat_cmp) c.args.indexes.now name) c.loop-file.yielded c.loop-file.picked c.in-Some.file c.in_ok-deps.deps c.loop-file.invariant c.in_ok-deps.ensures in
+    let more = file_picked c.args.moment c.args.indexes.now c.loop-file.yielded c.loop-file.picked c.in-Some.file c.in_ok-deps.deps c.loop-file.invariant c.in_ok-deps.ensures in
     rw c.in_ok-push.ensures.ok more

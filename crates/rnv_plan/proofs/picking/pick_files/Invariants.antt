@@ -1,8 +1,6 @@
-use Rattle.std.specs.BTreeMap.{get}
-use Rattle.std.specs.Ordering.{nat_cmp}
-use Rattle.std.specs.Cmp.Lexicographic.{slice_cmp}
-use Rattle.rnv_plan.specs.Gather.{ArePicked}
+use Rattle.std.specs.List.{AllZip}
+use Rattle.rnv_plan.specs.Listings.{IsFileHere}
 use Rattle.rnv_plan.proofs.picking.pick_files.Given as goal
 
 abbrev pub invariant-loop-file : goal.invariant-loop-file
-invariant-loop-file l = ArePicked l.moment (λ name. get (slice_cmp nat_cmp) l.indexes name) l.yielded l.picked
+invariant-loop-file l = AllZip (IsFileHere l.moment l.indexes) l.yielded l.picked

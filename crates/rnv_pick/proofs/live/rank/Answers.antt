@@ -7,7 +7,7 @@ use Rattle.rnv_pick.specs.declared.live.Live.{Live}
 use Rattle.rnv_pick.specs.Listing.{listed_cmp, listed_total}
 use Rattle.rnv_pick.specs.Seen.{seen}
 use Rattle.rnv_pick.proofs.Falling.{falling_from, falling_seen}
-use Rattle.rnv_pick.proofs.wanted.rank.Goals as goal
+use Rattle.rnv_pick.proofs.live.rank.Goals as goal
 
 pub returns-clause-falling : goal.returns-clause-falling
 returns-clause-falling g c =
