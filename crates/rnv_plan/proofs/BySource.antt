@@ -128,3 +128,26 @@ among_from s deps name (k, d, l, is, named) =
     let there : Contains (from s deps) d = (k, l, is) in
     let one = kept_among (is_from s) deps d there in
     (one.0, d, one.1, one.2, (same_source d.source s (kept_passes (is_from s) deps d there), named))
+
+pub by_source : (P : SourceKind → Type 0) → P Crates → P Npm → P Docker → (s : SourceKind) → P s
+by_source P crates npm docker Crates = crates
+by_source P crates npm docker Npm = npm
+by_source P crates npm docker Docker = docker
+
+module _ (files : List NamedFile) (deps : List Dep) where
+  abbrev pub AreSound : SourceKind → Type 0
+  AreSound s = All (λ d. IsSound files s d.«package») (from s deps)
+
+  pub before_npm : AreSound Crates → (t : SourceKind) → place t < place Npm → AreSound t
+  before_npm crates Crates below = crates
+  before_npm crates Npm below = absurd (omega (arith, below))
+  before_npm crates Docker below = absurd (omega (arith, below))
+
+  pub before_docker : AreSound Crates → AreSound Npm → (t : SourceKind) → place t < place Docker → AreSound t
+  before_docker crates npm Crates below = crates
+  before_docker crates npm Npm below = npm
+  before_docker crates npm Docker below = absurd (omega (arith, below))
+
+  pub all_sound : AreSound Crates → AreSound Npm → AreSound Docker → All (λ d. IsSound files d.source d.«package») deps
+  all_sound crates npm docker =
+      all_sources (λ d. IsSound files d.source d.«package») deps (λ s. of_source (λ s d. IsSound files s d.«package») s deps (by_source AreSound crates npm docker s))

@@ -91,6 +91,7 @@ all_of P each (d ∷ ds) = All-cons P d ds (each d) (all_of P each ds)
 -- what is picked is picked from some releases
 pub picked-some : (moment : ℕ) (indexes : Indexes) (read : AreRead indexes) (ts : List TakenFile) (ps : List PickedFile) → AllZip (IsFileHere moment indexes) ts ps
     → ArePicked moment (some_releases indexes read) ts ps
+unfolding some_releases
 picked-some moment indexes read ts ps picked =
     let look = some_releases indexes read in
     picked-from moment indexes read look ts ps (all_of (λ d. IsListing d.source (look d.source d.«package») (listing_for indexes d.source d.«package»)) (λ d. (read d.source d.«package»).1) (readable_in ts)) picked

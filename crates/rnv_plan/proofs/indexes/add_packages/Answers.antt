@@ -37,7 +37,7 @@ loop-dep-preserved c = λ before names.
           subst (λ (es : List Dep). AreNames es c.if-branch.names) (sym (longer c.args.source before deps i d true c.loop-dep-test.true c.dep-item.is readable)) (subst (λ (n : BTreeSet (List ℕ)). AreNames (so_far ++ d ∷ []) n) (sym w.names-is) more)
       | else-branch w ↦
           let unreadable : is_wanted c.args.source d ≡ false = search rules in
-          let same : before ++ filter is_readable (take (i + 1) deps) ≡ so_far = longer c.args.source before deps i d false c.loop-dep-test.true c.dep-item.is unreadable ∙ append-nil so_far in
+          let same : before ++ filter (is_wanted c.args.source) (take (i + 1) deps) ≡ so_far = longer c.args.source before deps i d false c.loop-dep-test.true c.dep-item.is unreadable ∙ append-nil so_far in
           subst (λ (es : List Dep). AreNames es c.if-branch.names) (sym same) (subst (λ (n : BTreeSet (List ℕ)). AreNames so_far n) (sym w.names-is) had)
     ]
 

@@ -67,6 +67,24 @@ loop-name-preserved-in_ok-insert-2 g c = record {
   later = omega (arith, c.in_ok-listing.ensures.cause.later, c.loop-name.invariant.later);
 }
 
+pub loop-name-preserved-in_ok-insert-3 : goal.loop-name-preserved-in_ok-insert-3
+loop-name-preserved-in_ok-insert-3 g c = record {
+  parts = parts_more (keys c.args.names) c.loop-name.yielded c.loop-name.name-iterator c.next.new.self c.in-Some.name c.loop-name.invariant.parts c.in-Some.ensures.steps;
+  read = listed g (goal.at.loop-name-preserved-in_ok-insert-3 g c).In_ok-insert;
+  some = some g (goal.at.loop-name-preserved-in_ok-insert-3 g c).In_ok-insert;
+  same = λ t. c.in_ok-listing.ensures.same t ∙ c.loop-name.invariant.same t;
+  later = omega (arith, c.in_ok-listing.ensures.cause.later, c.loop-name.invariant.later);
+}
+
+pub loop-name-preserved-in_ok-insert-4 : goal.loop-name-preserved-in_ok-insert-4
+loop-name-preserved-in_ok-insert-4 g c = record {
+  parts = parts_more (keys c.args.names) c.loop-name.yielded c.loop-name.name-iterator c.next.new.self c.in-Some.name c.loop-name.invariant.parts c.in-Some.ensures.steps;
+  read = listed g (goal.at.loop-name-preserved-in_ok-insert-4 g c).In_ok-insert;
+  some = some g (goal.at.loop-name-preserved-in_ok-insert-4 g c).In_ok-insert;
+  same = λ t. c.in_ok-listing.ensures.same t ∙ c.loop-name.invariant.same t;
+  later = omega (arith, c.in_ok-listing.ensures.cause.later, c.loop-name.invariant.later);
+}
+
 pub loop-name-preserved : goal.loop-name-preserved
 loop-name-preserved g c =
     let files = g.O.Folder.files c.args.folder.now in
