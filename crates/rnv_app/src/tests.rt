@@ -171,11 +171,11 @@ const PLANS: [(&[File], u8, &str); 17] = [
         13,
         "error 13: index/npm/left-pad.json line 1\n",
     ),
-    // Another manager's file, another repository's file alone, and no file at all.
+    // A configuration, another repository's file alone, and no file at all.
     (
-        &[REACT, ("repos/acme/web/Cargo.toml", ""), TWO],
+        &[REACT, TWO, ("repos/acme/web/renovate.json", "{}")],
         15,
-        "error 15: Cargo.toml is not built yet\n",
+        "error 15: renovate.json is not built yet\n",
     ),
     (
         &[REACT, ("repos/acme/other/package.json", "{}")],

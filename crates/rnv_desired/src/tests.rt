@@ -94,14 +94,27 @@ renovate/b-1.x 1.1.0 package.json {"dependencies":{"a":"1.0.0","b":"1.1.0","c":"
 renovate/c-1.x 1.1.0 package.json {"dependencies":{"a":"1.0.0","b":"1.0.0","c":"1.1.0"}}
 "#;
 
+const MANAGED: &str = r#"index/crates/serde {"vers":"1.1.0"}
+index/docker/node.json {"tags":["22.1.0"]}
+index/npm/node.json {"versions":{"22.1.0":{}}}
+index/npm/serde.json {"versions":{"1.1.0":{}}}
+repos/acme/web/Cargo.toml dependencies.serde = "=1.0.0" # newest
+repos/acme/web/Dockerfile FROM node:20.1.0 AS web"#;
+
+const MANAGED_ITEMS: &str = r#"renovate/serde-1.x =1.1.0 Cargo.toml dependencies.serde = "=1.1.0" # newest
+renovate/node-22.x 22.1.0 Dockerfile FROM node:22.1.0 AS web
+"#;
+
 #[test]
 fn edits_files(rt: HostRuntime) -> Result<(), Fail> {
-    let items = items(rt.alloc(), THREE)?;
-    let mut all = String::new(rt.alloc());
-    for item in items.as_slice() {
-        all.push_str(shown(rt.alloc(), item)?.as_str())?;
+    for (files, want) in [(THREE, THREE_ITEMS), (MANAGED, MANAGED_ITEMS)] {
+        let items = items(rt.alloc(), files)?;
+        let mut all = String::new(rt.alloc());
+        for item in items.as_slice() {
+            all.push_str(shown(rt.alloc(), item)?.as_str())?;
+        }
+        assert!(rt; all.as_str() == want, "{all}");
     }
-    assert!(rt; all.as_str() == THREE_ITEMS, "{all}");
     Ok(())
 }
 

@@ -4,7 +4,7 @@ mod Feeds
 mod Images
 mod Lines
 mod Parts
-mod Pieces
+pub mod Pieces
 mod Stages
 mod Steps
 mod Words

@@ -1,6 +1,6 @@
 -- A base that is gathered has no refusal, and no base has two.
 use Rattle.std.proofs.Common.{◌≡◌, ℕ, ◌<◌, List, Bool, true, false, length, refl, sym, ◌∙◌, ap, subst, arith}
-use Rattle.std.specs.List.{All, Any}
+use Rattle.std.specs.List.{All}
 use Rattle.std.specs.Ordering.{nat_cmp, ordering_reverse, is_eq}
 use Rattle.std.specs.Cmp.Lexicographic.{slice_cmp}
 use Rattle.std.specs.declared.cmp.Ordering.{Ordering}
@@ -17,19 +17,15 @@ use Rattle.rnv_pick.specs.declared.dep.Dep.{Dep}
 use Rattle.rnv_plan.specs.declared.error.RunError.{RunError}
 use Rattle.rnv_plan.specs.declared.inputs.PickedFile.{PickedFile}
 use Rattle.rnv_plan.specs.declared.taken.TakenFile.{TakenFile}
-use Rattle.rnv_plan.specs.Taken.{deps_in, readable_in, is_built, is_configured}
+use Rattle.rnv_plan.specs.Taken.{deps_in, readable_in, is_configured}
 use Rattle.rnv_plan.specs.Gather.{AreFew, IsGathered, index_for, is_sound, IsSound}
-use Rattle.rnv_plan.specs.Refusal.{HaveMany, IsFirstUnbuilt, IsFirstUnsound, HasUnsound, HasUnsoundOf, IsIndexRefusal, IsRefusal, many_dependencies, configured, unbuilt, refused_document}
+use Rattle.rnv_plan.specs.Refusal.{HaveMany, IsFirstUnsound, HasUnsound, HasUnsoundOf, IsIndexRefusal, IsRefusal, many_dependencies, configured, refused_document}
 use Rattle.rnv_plan.specs.Sources.{from, place}
 use Rattle.rnv_plan.proofs.BySource.{among_from, one_source}
 use Rattle.rnv_plan.proofs.TakenFiles.{taken-one}
 
 true-false : (b : Bool) → b ≡ true → b ≡ false → ⊥
 true-false b is_so not_so = cc
-
--- a test of a key that holds of each element fails of none
-clash : {X : Type 0} (key : X → List ℕ) (test : X → Bool) (xs : List X) (name : List ℕ) → All (λ x. test x ≡ true) xs → Any (λ x. (key x ≡ name) × (test x ≡ false)) xs → ⊥
-clash key test xs name each (k, x, l, is, p) = true-false (test x) (All-contains (λ y. test y ≡ true) xs x each (k, l, is)) p.1
 
 sound-clash : (files : List NamedFile) (s : SourceKind) (deps : List Dep) (name : List ℕ) → All (λ d. IsSound files d.source d.«package») deps → IsFirstUnsound files s (from s deps) name → ⊥
 sound-clash files s deps name each first =
@@ -49,8 +45,6 @@ few-one base ts us a b = taken-one base ts us a.read b.read
 pub gathered-fine : (files : List NamedFile) (moment : ℕ) (base : List MarkedFile) (picked : List PickedFile) → IsGathered files moment base picked → (e : RunError) → ¬ (IsRefusal files base e)
 gathered-fine files moment base picked g e (many_dependencies many same) = few-many base g.taken g.built.few many
 gathered-fine files moment base picked g e (configured ts few is_so same) = true-false (is_configured base) is_so g.built.plain
-gathered-fine files moment base picked g e (unbuilt ts few not_so path first same) =
-    clash (λ (t : TakenFile). t.path) is_built ts path (subst (All (λ t. is_built t ≡ true)) (few-one base g.taken ts g.built.few few) g.built.built) first.among
 gathered-fine files moment base picked g e (refused_document ts built refused) =
     sound-clash files refused.source (readable_in ts) refused.here.name (subst (λ (us : List TakenFile). All (λ d. IsSound files d.source d.«package») (readable_in us)) (few-one base g.taken ts g.built.few built.few) g.sound) refused.here.first
 
@@ -61,17 +55,6 @@ same-name : (p q : List ℕ) → (slice_cmp nat_cmp p q ≡ Less → ⊥) → (s
 same-name p q not_below not_above Less is = absurd (not_below is)
 same-name p q not_below not_above Equal is = tells_apart exact_bytes p q (ap (λ (o : Ordering). is_eq o) is)
 same-name p q not_below not_above Greater is = absurd (not_above (nat_list_cmp_total.antisymm q p ∙ ap ordering_reverse is))
-
-first-below : {X : Type 0} (key : X → List ℕ) (test : X → Bool) (xs : List X) (p q : List ℕ) → Any (λ x. (key x ≡ p) × (test x ≡ false)) xs → All (λ x. slice_cmp nat_cmp (key x) q ≡ Less → test x ≡ true) xs → slice_cmp nat_cmp p q ≡ Less → ⊥
-first-below key test xs p q (k, x, l, is, at) before below =
-    true-false (test x) (All-contains (λ y. slice_cmp nat_cmp (key y) q ≡ Less → test y ≡ true) xs x before (k, l, is) (subst (λ (n : List ℕ). slice_cmp nat_cmp n q ≡ Less) (sym at.0) below)) at.1
-
-unbuilt-one : (ts : List TakenFile) (p q : List ℕ) → IsFirstUnbuilt ts p → IsFirstUnbuilt ts q → p ≡ q
-unbuilt-one ts p q a b =
-    same-name p q
-    (first-below (λ (t : TakenFile). t.path) is_built ts p q a.among b.before)
-    (first-below (λ (t : TakenFile). t.path) is_built ts q p b.among a.before)
-    (slice_cmp nat_cmp p q) refl
 
 module _ (files : List NamedFile) (s : SourceKind) (deps : List Dep) where
   unsound-below : (p q : List ℕ) → IsFirstUnsound files s deps p → IsFirstUnsound files s deps q → slice_cmp nat_cmp p q ≡ Less → ⊥
@@ -116,22 +99,11 @@ module _ (files : List NamedFile) (base : List MarkedFile) (e f : RunError) wher
   pub refusal-one : IsRefusal files base e → IsRefusal files base f → e ≡ f
   refusal-one (many_dependencies many a) (many_dependencies many' b) = a ∙ sym b
   refusal-one (many_dependencies many a) (configured ts few is_so b) = absurd (few-many base ts few many)
-  refusal-one (many_dependencies many a) (unbuilt ts few not_so path first b) = absurd (few-many base ts few many)
   refusal-one (many_dependencies many a) (refused_document ts built refused) = absurd (few-many base ts built.few many)
   refusal-one (configured ts few is_so a) (many_dependencies many b) = absurd (few-many base ts few many)
   refusal-one (configured ts few is_so a) (configured ts' few' is_so' b) = a ∙ sym b
-  refusal-one (configured ts few is_so a) (unbuilt ts' few' not_so path first b) = absurd (true-false (is_configured base) is_so not_so)
   refusal-one (configured ts few is_so a) (refused_document ts' built refused) = absurd (true-false (is_configured base) is_so built.plain)
-  refusal-one (unbuilt ts few not_so path first a) (many_dependencies many b) = absurd (few-many base ts few many)
-  refusal-one (unbuilt ts few not_so path first a) (configured ts' few' is_so b) = absurd (true-false (is_configured base) is_so not_so)
-  refusal-one (unbuilt ts few not_so path first a) (unbuilt ts' few' not_so' path' first' b) =
-      let same : path ≡ path' = unbuilt-one ts' path path' (subst (λ (us : List TakenFile). IsFirstUnbuilt us path) (few-one base ts ts' few few') first) first' in
-      cc
-  refusal-one (unbuilt ts few not_so path first a) (refused_document ts' built refused) =
-      absurd (clash (λ (t : TakenFile). t.path) is_built ts' path built.built (subst (λ (us : List TakenFile). Any (λ t. (t.path ≡ path) × (is_built t ≡ false)) us) (few-one base ts ts' few built.few) first.among))
   refusal-one (refused_document ts built refused) (many_dependencies many b) = absurd (few-many base ts built.few many)
   refusal-one (refused_document ts built refused) (configured ts' few' is_so b) = absurd (true-false (is_configured base) is_so built.plain)
-  refusal-one (refused_document ts built refused) (unbuilt ts' few' not_so path first b) =
-      absurd (clash (λ (t : TakenFile). t.path) is_built ts' path (subst (All (λ t. is_built t ≡ true)) (few-one base ts ts' built.few few') built.built) first.among)
   refusal-one (refused_document ts built refused) (refused_document ts' built' refused') =
       unsound-one files (readable_in ts') e f (subst (λ (us : List TakenFile). HasUnsound files (readable_in us) e) (few-one base ts ts' built.few built'.few) refused) refused'

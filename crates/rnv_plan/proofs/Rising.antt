@@ -1,13 +1,11 @@
 -- What holds up to a place in a list that rises by a key.
-use Rattle.std.proofs.Common.{◌≡◌, ℕ, suc, ◌<◌, List, [], ◌∷◌, ◌++◌, length, take, drop, get_or, sym, ◌∙◌, ap, subst}
+use Rattle.std.proofs.Common.{◌≡◌, ℕ, List, [], ◌∷◌, ◌++◌, sym, ◌∙◌, ap, subst}
 use Rattle.std.specs.List.{All, AllByRecursion, AllZip}
 use Rattle.std.specs.List.Sorted.{IsStrictlySortedBy}
 use Rattle.std.specs.Ordering.{on, nat_cmp, ordering_reverse}
 use Rattle.std.specs.Cmp.Lexicographic.{slice_cmp}
 use Rattle.std.specs.declared.cmp.Ordering.TheVariants.{Less}
-use Rattle.std.proofs.Math.Seq.{drop-cons}
 use Rattle.std.proofs.lemmas.Cmp.{nat_list_cmp_total}
-use Rattle.std.proofs.lemmas.List.{take-append-drop}
 use Rattle.std.proofs.lemmas.List.Elements.{All-cons, All-append, All-weaker, All-from_recursion}
 use Rattle.std.proofs.lemmas.Map.Keys.{sorted_head, sorted_tail}
 use Rattle.rnv_repo.specs.Named.{IsRisingBy}
@@ -48,14 +46,3 @@ module _ {A B : Type 0} (k : A → List ℕ) (j : B → List ℕ) (R : A → B �
   zip_rising [] (v ∷ vs) each rising = absurd each
   zip_rising (u ∷ us) [] each rising = absurd each
   zip_rising (u ∷ us) (v ∷ vs) each rising = (below_others u v us vs each.0 rising.0 each.1, zip_rising us vs each.1 rising.1)
-
-parted : {X : Type 0} (xs : List X) (i : ℕ) (x : X) → i < length xs → x ≡ get_or xs i x → take i xs ++ x ∷ drop (suc i) xs ≡ xs
-parted xs i x within at =
-    ap (λ y. take i xs ++ y ∷ drop (suc i) xs) at ∙ (ap (λ ys. take i xs ++ ys) (sym (drop-cons xs i x within)) ∙ take-append-drop i xs)
-
--- the same at a place
-pub below_place : {X : Type 0} (key : X → List ℕ) (P : X → Type 0) (xs : List X) (i : ℕ) (x : X) → i < length xs → x ≡ get_or xs i x → IsRisingBy key xs → All P (take i xs) → All (λ y. slice_cmp nat_cmp (key y) (key x) ≡ Less → P y) xs
-below_place key P xs i x within at rising before =
-    let whole = parted xs i x within at in
-    subst (All (λ y. slice_cmp nat_cmp (key y) (key x) ≡ Less → P y)) whole
-    (below_one key P (take i xs) x (drop (suc i) xs) (subst (IsRisingBy key) (sym whole) rising) before)

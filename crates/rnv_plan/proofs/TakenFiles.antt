@@ -12,7 +12,6 @@ use Rattle.std.proofs.lemmas.Option.{same_Some}
 use Rattle.std.proofs.lemmas.Slice.Zip.{all_zipped_more}
 use Rattle.rnv_base.specs.Limits.{most_dependencies}
 use Rattle.rnv_base.specs.declared.kinds.ManagerKind.{ManagerKind}
-use Rattle.rnv_base.specs.declared.kinds.ManagerKind.TheVariants.{Npm}
 use Rattle.rnv_repo.specs.Files.{MarkedFile}
 use Rattle.rnv_repo.specs.Named.{IsRisingBy}
 use Rattle.rnv_manager.specs.declared.found.Found.{Found}
@@ -100,16 +99,16 @@ taken-rising files ts each rising =
 
 -- ---- the dependencies of a file, as its finds give them
 
-pub npm-deps : (f : MarkedFile) (bytes path : List ℕ) (found : List Found) (ds : List Dep) → bytes ≡ f.bytes → path ≡ f.path → AreFinds Npm bytes (views found) → ds ≡ map (dep_of path Npm) (views found) → AreDeps Npm f ds
-npm-deps f bytes path found ds same_bytes same_path read same = record {
+pub found-deps : (m : ManagerKind) (f : MarkedFile) (bytes path : List ℕ) (found : List Found) (ds : List Dep) → bytes ≡ f.bytes → path ≡ f.path → AreFinds m bytes (views found) → ds ≡ map (dep_of path m) (views found) → AreDeps m f ds
+found-deps m f bytes path found ds same_bytes same_path read same = record {
   finds = views found;
-  read = subst (λ (bs : List ℕ). AreFinds Npm bs (views found)) same_bytes read;
-  same = same ∙ ap (λ (p : List ℕ). map (dep_of p Npm) (views found)) same_path;
+  read = subst (λ (bs : List ℕ). AreFinds m bs (views found)) same_bytes read;
+  same = same ∙ ap (λ (p : List ℕ). map (dep_of p m) (views found)) same_path;
 }
 
-pub npm-many : (f : MarkedFile) (bytes : List ℕ) (found : List Found) (room count : ℕ) → bytes ≡ f.bytes → AreFinds Npm bytes (views found) → count ≡ length found → room < count → (ds : List Dep) × AreDeps Npm f ds × (room < length ds)
-npm-many f bytes found room count same_bytes read counted more =
-    (map (dep_of f.path Npm) (views found), npm-deps f bytes f.path found (map (dep_of f.path Npm) (views found)) same_bytes refl read refl, omega (arith, length-map (views found) (dep_of f.path Npm), length-map found view))
+pub found-many : (m : ManagerKind) (f : MarkedFile) (bytes : List ℕ) (found : List Found) (room count : ℕ) → bytes ≡ f.bytes → AreFinds m bytes (views found) → count ≡ length found → room < count → (ds : List Dep) × AreDeps m f ds × (room < length ds)
+found-many m f bytes found room count same_bytes read counted more =
+    (map (dep_of f.path m) (views found), found-deps m f bytes f.path found (map (dep_of f.path m) (views found)) same_bytes refl read refl, omega (arith, length-map (views found) (dep_of f.path m), length-map found view))
 
 -- the dependencies of one file more
 pub deps-longer : (ts : List TakenFile) (i : ℕ) (t : TakenFile) → i < length ts → t ≡ get_or ts i t → deps_in (take i ts) ++ t.deps ≡ deps_in (take (i + 1) ts)

@@ -16,7 +16,7 @@ use Rattle.rnv_plan.specs.declared.inputs.PickedDep.{PickedDep}
 use Rattle.rnv_plan.specs.declared.inputs.PickedFile.{PickedFile}
 use Rattle.rnv_plan.specs.declared.taken.TakenFile.{TakenFile}
 use Rattle.rnv_plan.specs.Plain.{plain}
-use Rattle.rnv_plan.specs.Taken.{AreDeps, AreTaken, deps_in, readable_in, is_configured, is_built}
+use Rattle.rnv_plan.specs.Taken.{AreDeps, AreTaken, deps_in, readable_in, is_configured}
 
 -- ---- the base
 
@@ -29,7 +29,6 @@ pub record AreFew (base : List MarkedFile) (taken : List TakenFile) : Type 0 whe
 pub record AreBuilt (base : List MarkedFile) (taken : List TakenFile) : Type 0 where
   pub few : AreFew base taken
   pub plain : is_configured base ≡ false
-  pub built : All (λ t. is_built t ≡ true) taken
 
 -- ---- the documents of packages
 

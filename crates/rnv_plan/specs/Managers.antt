@@ -5,7 +5,9 @@ use Rattle.std.specs.Cmp.Lexicographic.{pointwise}
 use Rattle.rnv_base.specs.declared.kinds.ManagerKind.{ManagerKind}
 use Rattle.rnv_base.specs.declared.kinds.ManagerKind.TheVariants.{Cargo, Npm, Dockerfile, Regex}
 use Rattle.rnv_manager.specs.Marks.{Mark}
-use Rattle.rnv_package_json.specs.Grammar.{IsRead}
+use Rattle.rnv_cargo.specs.Grammar as cargo
+use Rattle.rnv_docker.specs.Grammar as docker
+use Rattle.rnv_package_json.specs.Grammar as npm
 
 -- what stands behind the last slash, or all where there is none
 abbrev pub last_segment : List ℕ → List ℕ
@@ -24,10 +26,10 @@ manager_named name =
 unfoldable pub manager_of : List ℕ → Option ManagerKind
 manager_of path = manager_named (last_segment path)
 
--- these are the gaps and finds that the manager reads in a text: npm's by the grammar of a `package.json`; of a
--- `Cargo.toml`, a Dockerfile and what an expression finds nothing is read yet
+-- these are the gaps and finds that the manager reads in a text, by its grammar: that of a `Cargo.toml`, of a
+-- `package.json`, of a Dockerfile; no file is taken by an expression, and none is read by one
 abbrev pub IsReadBy : ManagerKind → List ℕ → List Mark → Type 0
-IsReadBy Cargo text marks = ⊥
-IsReadBy Npm text marks = IsRead text marks
-IsReadBy Dockerfile text marks = ⊥
+IsReadBy Cargo text marks = cargo.IsRead text marks
+IsReadBy Npm text marks = npm.IsRead text marks
+IsReadBy Dockerfile text marks = docker.IsRead text marks
 IsReadBy Regex text marks = ⊥

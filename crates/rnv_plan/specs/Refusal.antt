@@ -15,7 +15,7 @@ use Rattle.rnv_plan.specs.declared.error.RunError.{RunError}
 use Rattle.rnv_plan.specs.declared.error.RunError.TheVariants.{Memory, FolderFault, DiskFault, UnknownRepo, NotBuilt, Limit, IndexRefused}
 use Rattle.rnv_plan.specs.declared.taken.TakenFile.{TakenFile}
 use Rattle.rnv_plan.specs.Sources.{from, place}
-use Rattle.rnv_plan.specs.Taken.{AreTaken, deps_in, readable_in, is_configured, is_built}
+use Rattle.rnv_plan.specs.Taken.{AreTaken, deps_in, readable_in, is_configured}
 use Rattle.rnv_plan.specs.Gather.{AreFew, AreBuilt, index_for, is_sound, IsSound}
 
 -- a fact of the error, but for want of memory and a fault of the folder
@@ -33,11 +33,6 @@ pub record HaveMany (base : List MarkedFile) : Type 0 where
   pub taken : List TakenFile
   pub read : AreTaken base taken
   pub many : most_dependencies < length (deps_in taken)
-
--- the first path by its bytes whose file is not built yet
-pub record IsFirstUnbuilt (taken : List TakenFile) (path : List ℕ) : Type 0 where
-  pub among : Any (λ t. (t.path ≡ path) × (is_built t ≡ false)) taken
-  pub before : All (λ t. slice_cmp nat_cmp t.path path ≡ Less → is_built t ≡ true) taken
 
 -- the first package of a source, by its name, whose document is refused
 pub record IsFirstUnsound (files : List NamedFile) (source : SourceKind) (deps : List Dep) (name : List ℕ) : Type 0 where
@@ -70,5 +65,4 @@ pub record HasUnsound (files : List NamedFile) (deps : List Dep) (error : RunErr
 pub data IsRefusal (files : List NamedFile) (base : List MarkedFile) (error : RunError) : Type 0 where
   many_dependencies : HaveMany base → error ≡ Limit (codes "dependencies") most_dependencies → IsRefusal files base error
   configured : (taken : List TakenFile) → AreFew base taken → is_configured base ≡ true → error ≡ NotBuilt (codes "renovate.json") → IsRefusal files base error
-  unbuilt : (taken : List TakenFile) → AreFew base taken → is_configured base ≡ false → (path : List ℕ) → IsFirstUnbuilt taken path → error ≡ NotBuilt path → IsRefusal files base error
   refused_document : (taken : List TakenFile) → AreBuilt base taken → HasUnsound files (readable_in taken) error → IsRefusal files base error

@@ -1,10 +1,9 @@
 -- The files of a base that a manager takes, with their dependencies.
-use Rattle.std.specs.Prelude.{◌≡◌, ◌⊎◌, ℕ, List, [], ◌==◌, map, filter, codes, Bool, true, false, None, Some, is_some}
+use Rattle.std.specs.Prelude.{◌≡◌, ◌⊎◌, ℕ, List, [], ◌==◌, map, filter, codes, Bool, None, Some, is_some}
 use Rattle.std.specs.List.{AllZip, flat_map, list_any}
 use Rattle.std.specs.Str.{IsUtf8}
 use Rattle.std.specs.Cmp.Lexicographic.{pointwise}
 use Rattle.rnv_base.specs.declared.kinds.ManagerKind.{ManagerKind}
-use Rattle.rnv_base.specs.declared.kinds.ManagerKind.TheVariants.{Cargo, Npm, Dockerfile, Regex}
 use Rattle.rnv_repo.specs.Files.{MarkedFile}
 use Rattle.rnv_manager.specs.Finds.{Find}
 use Rattle.rnv_manager.specs.Marks.{Mark, finds_from}
@@ -66,18 +65,8 @@ is_readable d = is_range d.source d.value
 abbrev pub readable_in : List TakenFile → List Dep
 readable_in taken = filter is_readable (deps_in taken)
 
--- ---- what is built
+-- ---- the configuration
 
 -- the configuration of a repository stands at its root
 abbrev pub is_configured : List MarkedFile → Bool
 is_configured base = list_any (λ f. pointwise ◌==◌ f.path (codes "renovate.json")) base
-
-abbrev pub is_npm : ManagerKind → Bool
-is_npm Cargo = false
-is_npm Npm = true
-is_npm Dockerfile = false
-is_npm Regex = false
-
--- npm takes the file
-abbrev pub is_built : TakenFile → Bool
-is_built t = is_npm t.manager

@@ -42,14 +42,13 @@ fn gather_taken<O: Folder>(
     Ok(pick_files(alloc, taken, &indexes, moment)?)
 }
 
-// What is gathered of the files of a base, which stand by path, at the moment.
+// What is gathered of the files of a base at the moment.
 fn gather_files<O: Folder>(
     alloc: Global,
     folder: &mut O,
     files: &[FileAt],
     moment: u64,
 ) -> Result<List<PickedFile>, RunError>
-    requires { IsRisingBy (λ f. f.path) files.now }
     ensures gathered { O.tells → IfOk result (IsGathered (O.files folder.old) moment files.now) }
     ensures picked { IfOk result (IsPickedFrom moment files.now) }
     ensures refused { O.tells → IfErr result (IfTold (IsRefusal (O.files folder.old) files.now)) }
@@ -83,12 +82,12 @@ fn inputs(
 }
 
 /// The inputs of a run of a repository with these files, which stand by path, for the configuration
-/// `{}`: per file that npm takes (`package.json` in any folder) its dependencies in turn, each with its
-/// current version, why it is skipped, and its updates from the folder's index; other files are
-/// passed over. A document is read for the dependencies whose value is a range alone. The first of these that
-/// holds is the refusal: `Limit` of the dependencies above 20,000 together; `NotBuilt` of
-/// `renovate.json`; `NotBuilt` of the first path by its bytes that Cargo or Docker takes; then per source (crates, npm, Docker) and
-/// per package by its name `FolderFault` only where the folder's count of faults
+/// `{}`: per file that a manager takes (`package.json`, `Cargo.toml`, `Dockerfile`, `Containerfile` and
+/// `Dockerfile.*` in any folder) its dependencies in turn, each with its current version, why it is
+/// skipped, and its updates from the folder's index; other files are passed over. A document is read for
+/// the dependencies whose value is a range alone. The first of these that holds is the refusal: `Limit` of
+/// the dependencies above 20,000 together; `NotBuilt` of `renovate.json`; then per source (crates, npm,
+/// Docker) and per package by its name `FolderFault` only where the folder's count of faults
 /// rose, `Limit` of its document above 67,108,864 bytes, `IndexRefused` where this is outside its grammar,
 /// `Limit` of its releases above 50,000. `Memory` may come at any point.
 pub fn gather_base<O: Folder>(

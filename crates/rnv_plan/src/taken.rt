@@ -1,7 +1,10 @@
-ghost use Rattle.std.specs.Prelude.{◌≡◌, ◌≢◌, ◌≤◌, ◌<◌, List as Items, codes, map, length, IfOk, IfErr};
+ghost use Rattle.std.specs.Prelude.{◌≡◌, ◌≢◌, ◌≤◌, ◌<◌, List as Items, codes, map, length, IfOk, IfErr, IsErrOf};
 ghost use Rattle.std.specs.Str.{IsUtf8};
 ghost use Rattle.rnv_base.specs.Limits.{most_dependencies};
+ghost use Rattle.rnv_manager.specs.declared.found.ExtractError.TheVariants.{BadSyntax};
 ghost use Rattle.rnv_manager.specs.Finds.{Find, view, views};
+ghost use Rattle.rnv_manager.specs.Marks.{Mark, finds_from};
+ghost use Rattle.rnv_plan.specs.Managers.{IsReadBy};
 ghost use Rattle.rnv_plan.specs.Taken.{AreDeps, AreFinds, AreTaken, deps_in, dep_of};
 ghost use Rattle.rnv_plan.specs.Gather.{AreFew};
 ghost use Rattle.rnv_plan.specs.Refusal.{IfTold, HaveMany};
@@ -10,6 +13,8 @@ use crate::RunError;
 use crate::error::limit;
 use crate::managers::manager_of;
 use rnv_base::{List, MOST_DEPENDENCIES, ManagerKind, Share, Text};
+use rnv_cargo::CargoManager;
+use rnv_docker::DockerManager;
 use rnv_manager::{ExtractError, Found, Manager};
 use rnv_package_json::NpmManager;
 use rnv_pick::Dep;
@@ -25,42 +30,66 @@ pub(crate) struct TakenFile {
     pub(crate) deps: List<Dep>,
 }
 
-// The finds of a text, none where it is outside npm's grammar. Only memory can fail.
+// What the manager of this kind finds in a text: `BadSyntax` exactly where it does not read the text. Else
+// only memory can fail.
+fn extract<'a>(
+    alloc: Global,
+    manager: ManagerKind,
+    text: &'a str,
+) -> Result<List<Found<'a>>, ExtractError>
+    ensures found { IfOk result (λ found. (ms : Items Mark) × IsReadBy manager text.now ms × (views found ≡ finds_from 0 ms)) }
+    ensures bad { IsErrOf result BadSyntax → (ms : Items Mark) → ¬ IsReadBy manager text.now ms }
+{
+    match manager {
+        ManagerKind::Cargo => CargoManager.extract(alloc, text),
+        ManagerKind::Npm => NpmManager.extract(alloc, text),
+        ManagerKind::Dockerfile => DockerManager.extract(alloc, text),
+        // No file is taken by an expression.
+        ManagerKind::Regex => Err(ExtractError::BadSyntax),
+    }
+}
+
+// The finds of a text, none where it is outside the manager's grammar. Only memory can fail.
 fn found_in<'a>(
     alloc: Global,
-    npm: &'a NpmManager,
+    manager: ManagerKind,
     text: &'a str,
 ) -> Result<List<Found<'a>>, AllocError>
-    ensures { IfOk result (λ found. AreFinds ManagerKind.Npm text.now (views found)) }
+    ensures { IfOk result (λ found. AreFinds manager text.now (views found)) }
 {
-    match npm.extract(alloc, text) {
+    match extract(alloc, manager, text) {
         Ok(found) => Ok(found),
         Err(ExtractError::BadSyntax) => Ok(List::empty(alloc)),
         Err(ExtractError::Memory) => Err(AllocError),
     }
 }
 
-// The finds of a `package.json` of these bytes, none where they are no text. Only memory can fail.
+// The finds of a file of these bytes, none where they are no text. Only memory can fail.
 fn found<'a>(
     alloc: Global,
-    npm: &'a NpmManager,
+    manager: ManagerKind,
     bytes: &'a [u8],
 ) -> Result<List<Found<'a>>, AllocError>
-    ensures { IfOk result (λ found. AreFinds ManagerKind.Npm bytes.now (views found)) }
+    ensures { IfOk result (λ found. AreFinds manager bytes.now (views found)) }
 {
     match std::str::from_utf8(bytes) {
-        Ok(text) => found_in(alloc, npm, text),
+        Ok(text) => found_in(alloc, manager, text),
         Err(_) => Ok(List::empty(alloc)),
     }
 }
 
 // A find as a dependency of the file at this path.
-fn dep(alloc: Global, path: &str, found: &Found) -> Result<Dep, AllocError>
-    ensures { IfOk result (λ dep. dep ≡ dep_of path.now ManagerKind.Npm (view found.now)) }
+fn dep(
+    alloc: Global,
+    path: &str,
+    manager: ManagerKind,
+    found: &Found,
+) -> Result<Dep, AllocError>
+    ensures { IfOk result (λ dep. dep ≡ dep_of path.now manager (view found.now)) }
 {
     Ok(Dep {
         file: Text::copied(alloc, path)?,
-        manager: ManagerKind::Npm,
+        manager,
         source: found.source,
         place: Text::copied(alloc, found.place)?,
         name: Text::copied(alloc, found.name)?,
@@ -72,31 +101,19 @@ fn dep(alloc: Global, path: &str, found: &Found) -> Result<Dep, AllocError>
 }
 
 // The finds as dependencies of the file at this path.
-fn deps(alloc: Global, path: &str, found: &[Found]) -> Result<List<Dep>, AllocError>
-    ensures { IfOk result (λ deps. deps ≡ map (dep_of path.now ManagerKind.Npm) (views found.now)) }
+fn deps(
+    alloc: Global,
+    path: &str,
+    manager: ManagerKind,
+    found: &[Found],
+) -> Result<List<Dep>, AllocError>
+    ensures { IfOk result (λ deps. deps ≡ map (dep_of path.now manager) (views found.now)) }
 {
     let mut deps = List::empty(alloc);
     for one in found {
-        deps.push(dep(alloc, path, one)?)?;
+        deps.push(dep(alloc, path, manager, one)?)?;
     }
     Ok(deps)
-}
-
-// The dependencies of a `package.json`, at most as many as there is room for.
-fn npm_deps(alloc: Global, file: &FileAt, room: usize) -> Result<List<Dep>, RunError>
-    ensures deps { IfOk result (AreDeps ManagerKind.Npm file.now) }
-    ensures few { IfOk result (λ deps. length deps ≤ room) }
-    ensures many { IfErr result (IfTold (λ error. (deps : Items Dep) × AreDeps ManagerKind.Npm file.now deps × (room < length deps) × (error ≡ RunError.Limit (codes "dependencies") most_dependencies))) }
-    ensures fault { result ≢ Err RunError.FolderFault }
-    ensures disk { result ≢ Err RunError.DiskFault }
-    ensures unknown { result ≢ Err RunError.UnknownRepo }
-{
-    let npm = NpmManager;
-    let found = found(alloc, &npm, file.bytes.as_slice())?;
-    if found.len() > room {
-        return Err(limit(alloc, "dependencies", MOST_DEPENDENCIES as u64));
-    }
-    Ok(deps(alloc, file.path.as_str(), found.as_slice())?)
 }
 
 // The dependencies of a file that this manager takes, at most as many as there is room for.
@@ -113,12 +130,11 @@ fn file_deps(
     ensures disk { result ≢ Err RunError.DiskFault }
     ensures unknown { result ≢ Err RunError.UnknownRepo }
 {
-    match manager {
-        ManagerKind::Npm => npm_deps(alloc, file, room),
-        ManagerKind::Cargo | ManagerKind::Dockerfile | ManagerKind::Regex => {
-            Ok(List::empty(alloc))
-        }
+    let found = found(alloc, manager, file.bytes.as_slice())?;
+    if found.len() > room {
+        return Err(limit(alloc, "dependencies", MOST_DEPENDENCIES as u64));
     }
+    Ok(deps(alloc, file.path.as_str(), manager, found.as_slice())?)
 }
 
 // The files of a base that managers take, in its order, with their dependencies. `Limit` exactly

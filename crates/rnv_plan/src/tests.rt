@@ -3,7 +3,7 @@ use crate::grouping::item_order;
 use crate::kept::kept;
 use crate::managers::manager_of;
 use crate::{
-    Group, NamedUpdate, RunError, branch_name, gather_base, gather_folder, items, one_order,
+    Group, NamedUpdate, PickedFile, RunError, branch_name, gather_base, gather_folder, items, one_order,
     one_refusal, plan_folder,
 };
 use rnv_base::{Bytes, List, ManagerKind, MemFile, MemFolder, SourceKind, Text, UpdateKind};
@@ -271,7 +271,7 @@ const PLANS: [(&[File], &str); 15] = [
             ("repos/acme/web/a/Cargo.toml", ""),
             ("repos/acme/web/package.json", RANGE),
         ],
-        "not built a/Cargo.toml",
+        "refused index/npm/b.json 1",
     ),
     (
         &[
@@ -279,12 +279,9 @@ const PLANS: [(&[File], &str); 15] = [
             ("repos/acme/web/a/package.json", RANGE),
             ("repos/acme/web/z/Dockerfile.dev", ""),
         ],
-        "not built z/Dockerfile.dev",
+        "refused index/npm/b.json 1",
     ),
-    (
-        &[("repos/acme/web/Containerfile", "")],
-        "not built Containerfile",
-    ),
+    (&[("repos/acme/web/Containerfile", "")], ""),
     (
         &[BAD_A, BAD_B, ("repos/acme/web/package.json", A_AND_B)],
         "refused index/npm/a.json 1",
@@ -424,6 +421,77 @@ fn counts_dependencies(rt: HostRuntime) -> Result<(), Fail> {
         let mut folder = large_folder(rt.alloc(), count)?;
         let said = said(rt.alloc(), &mut folder)?;
         assert!(rt; said.as_str() == want, "{said} of {count}");
+    }
+    Ok(())
+}
+
+// Files, each with the manager that takes it and its dependencies: the place, the package and the value.
+const MANAGED: [(File, ManagerKind, &str); 5] = [
+    (
+        (
+            "repos/acme/web/Cargo.toml",
+            "[dependencies]\nlog = \"0.4\"\na = { version = \"1\", package = \"b\" }\n[dev-dependencies]\nc = \"=1.0.0\"\n",
+        ),
+        ManagerKind::Cargo,
+        "dependencies log 0.4 dependencies b 1 dev-dependencies c =1.0.0 ",
+    ),
+    // Outside the grammar of a `Cargo.toml`.
+    (
+        (
+            "repos/acme/web/a/Cargo.toml",
+            "[dependencies]\nlog = \"0.4\"\n[",
+        ),
+        ManagerKind::Cargo,
+        "",
+    ),
+    (
+        (
+            "repos/acme/web/Dockerfile",
+            "FROM rust:1.79 AS build\nFROM debian:12-slim\n",
+        ),
+        ManagerKind::Dockerfile,
+        "stage rust 1.79 final debian 12-slim ",
+    ),
+    (
+        ("repos/acme/web/a/Dockerfile.dev", "FROM scratch\n"),
+        ManagerKind::Dockerfile,
+        "",
+    ),
+    (
+        (
+            "repos/acme/web/package.json",
+            "{\"peerDependencies\":{\"a\":\"^1\"}}",
+        ),
+        ManagerKind::Npm,
+        "peerDependencies a ^1 ",
+    ),
+];
+
+// The place, the package and the value of each dependency of a file.
+fn deps(alloc: Global, file: &PickedFile) -> Result<String, AllocError> {
+    let mut line = String::new(alloc);
+    for picked in file.deps.as_slice() {
+        let place = picked.dep.place.as_str();
+        let package = picked.dep.package.as_str();
+        let value = picked.dep.value.as_str();
+        line.push_str(format!(in alloc; "{place} {package} {value} ")?.as_str())?;
+    }
+    Ok(line)
+}
+
+#[test]
+fn reads_by_manager(rt: HostRuntime) -> Result<(), Fail> {
+    for (file, manager, want) in MANAGED {
+        let mut folder = folder(rt.alloc(), [file].as_slice(), &[])?;
+        let Ok(planned) = gather_folder(rt.alloc(), &mut folder, "acme/web", 0) else {
+            return Err("not gathered".into());
+        };
+        let [picked] = planned.inputs.picked.as_slice() else {
+            return Err("not one file".into());
+        };
+        assert_eq!(rt; picked.manager, manager);
+        let deps = deps(rt.alloc(), picked)?;
+        assert!(rt; deps.as_str() == want, "{deps}");
     }
     Ok(())
 }
