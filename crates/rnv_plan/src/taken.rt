@@ -79,12 +79,7 @@ fn found<'a>(
 }
 
 // A find as a dependency of the file at this path.
-fn dep(
-    alloc: Global,
-    path: &str,
-    manager: ManagerKind,
-    found: &Found,
-) -> Result<Dep, AllocError>
+fn dep(alloc: Global, path: &str, manager: ManagerKind, found: &Found) -> Result<Dep, AllocError>
     ensures { IfOk result (λ dep. dep ≡ dep_of path.now manager (view found.now)) }
 {
     Ok(Dep {

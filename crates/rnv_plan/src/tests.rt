@@ -3,8 +3,8 @@ use crate::grouping::item_order;
 use crate::kept::kept;
 use crate::managers::manager_of;
 use crate::{
-    Group, NamedUpdate, PickedFile, RunError, branch_name, gather_base, gather_folder, items, one_order,
-    one_refusal, plan_folder,
+    Group, NamedUpdate, PickedFile, RunError, branch_name, gather_base, gather_folder, items,
+    one_order, one_refusal, plan_folder,
 };
 use rnv_base::{Bytes, List, ManagerKind, MemFile, MemFolder, SourceKind, Text, UpdateKind};
 use rnv_pick::{Dep, Update, UpdateOptions};
@@ -238,10 +238,14 @@ const CARET: &str = "{\"dependencies\":{\"lodash\":\"^4.17.0\"}}";
 
 const NO_RANGE: &str = "{\"dependencies\":{\"b\":\"file:../b\"}}";
 
+const B_OF_CRATES: &str = "[dependencies]\nb = \"1.2\"\n";
+
+const NODE: &str = "FROM node:20.1.0\n";
+
 const RANGE: &str = "{\"dependencies\":{\"b\":\"^1.0.0\"}}";
 
 // The files of a folder, and what is said of the plan of `acme/web`.
-const PLANS: [(&[File], &str); 15] = [
+const PLANS: [(&[File], &str); 17] = [
     (
         &[
             A,
@@ -265,21 +269,44 @@ const PLANS: [(&[File], &str); 15] = [
         "not built renovate.json",
     ),
     (&[("repos/acme/web/a/renovate.json", "{}")], ""),
+    // Documents are read by source, crates first and images last, and then by name.
     (
         &[
+            ("index/crates/b", "{\"vers\":\"1.0.0\"}\nno"),
+            BAD_A,
+            ("repos/acme/web/Cargo.toml", B_OF_CRATES),
+            ("repos/acme/web/package.json", A_AND_B),
+        ],
+        "refused index/crates/b 2",
+    ),
+    (
+        &[
+            ("index/docker/node.json", "["),
             BAD_B,
-            ("repos/acme/web/a/Cargo.toml", ""),
+            ("repos/acme/web/Dockerfile", NODE),
             ("repos/acme/web/package.json", RANGE),
         ],
         "refused index/npm/b.json 1",
     ),
     (
         &[
-            BAD_B,
-            ("repos/acme/web/a/package.json", RANGE),
-            ("repos/acme/web/z/Dockerfile.dev", ""),
+            ("index/docker/node.json", "["),
+            ("repos/acme/web/Dockerfile", NODE),
         ],
-        "refused index/npm/b.json 1",
+        "refused index/docker/node.json 1",
+    ),
+    (
+        &[
+            (
+                "index/crates/b",
+                "{\"vers\":\"1.2.0\"}\n{\"vers\":\"2.0.0\"}\n",
+            ),
+            ("index/docker/node.json", "{\"tags\":[\"22.1.0\"]}"),
+            ("index/npm/b.json", "{\"versions\":{\"3.0.0\":{}}}"),
+            ("repos/acme/web/Cargo.toml", B_OF_CRATES),
+            ("repos/acme/web/Dockerfile", NODE),
+        ],
+        "renovate/b-2.x Cargo.toml 1.2 2.0 renovate/node-22.x Dockerfile 20.1.0 22.1.0 ",
     ),
     (&[("repos/acme/web/Containerfile", "")], ""),
     (

@@ -17,5 +17,5 @@ pub loop-dep-preserved : goal.loop-dep-preserved
 loop-dep-preserved c =
     let d = c.in-Some.dep in
     let picked = λ (releases : Option (List Release)) (lists : IsListing d.source releases (listing_for c.args.indexes.now d.source d.«package»)).
-        c.in_ok-one.ensures releases (subst (λ (l : Option Listing). IsListing d.source releases l) (sym c.listing-listing.ensures) lists) in
+    c.in_ok-one.ensures releases (subst (λ (l : Option Listing). IsListing d.source releases l) (sym c.listing-listing.ensures) lists) in
     rw c.in_ok-push.ensures.ok (dep_picked c.args.moment c.args.indexes.now c.loop-dep.yielded c.loop-dep.picked d c.in_ok-one.one c.loop-dep.invariant picked)
