@@ -101,7 +101,8 @@ index/npm/serde.json {"versions":{"1.1.0":{}}}
 repos/acme/web/Cargo.toml dependencies.serde = "=1.0.0" # newest
 repos/acme/web/Dockerfile FROM node:20.1.0 AS web"#;
 
-const MANAGED_ITEMS: &str = r#"renovate/serde-1.x =1.1.0 Cargo.toml dependencies.serde = "=1.1.0" # newest
+const MANAGED_ITEMS: &str =
+    r#"renovate/serde-1.x =1.1.0 Cargo.toml dependencies.serde = "=1.1.0" # newest
 renovate/node-22.x 22.1.0 Dockerfile FROM node:22.1.0 AS web
 "#;
 

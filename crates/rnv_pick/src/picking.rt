@@ -114,7 +114,15 @@ fn to_chosen<V: Versioning, O: Rules>(
 {
     versioning.keeps_laws();
     let mut allowance = allowance_of(alloc, versioning, &target.options.allowed)?;
-    to_each(alloc, versioning, rules, moment, target, &mut allowance, found)
+    to_each(
+        alloc,
+        versioning,
+        rules,
+        moment,
+        target,
+        &mut allowance,
+        found,
+    )
 }
 
 // The version that the candidates are above.
