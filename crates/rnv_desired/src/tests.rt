@@ -96,8 +96,6 @@ renovate/c-1.x 1.1.0 package.json {"dependencies":{"a":"1.0.0","b":"1.0.0","c":"
 
 const MANAGED: &str = r#"index/crates/serde {"vers":"1.1.0"}
 index/docker/node.json {"tags":["22.1.0"]}
-index/npm/node.json {"versions":{"22.1.0":{}}}
-index/npm/serde.json {"versions":{"1.1.0":{}}}
 repos/acme/web/Cargo.toml dependencies.serde = "=1.0.0" # newest
 repos/acme/web/Dockerfile FROM node:20.1.0 AS web"#;
 
