@@ -2,6 +2,7 @@
 #![tactic(auto)]
 
 mod config;
+mod engines;
 mod error;
 mod lists;
 #[cfg(test)]
@@ -17,6 +18,7 @@ mod tests;
 mod text;
 
 pub use config::Config;
+pub use engines::{Engines, MemEngines};
 pub use error::ConfigError;
 pub use merging::merge;
 pub use read_config::ReadConfig;

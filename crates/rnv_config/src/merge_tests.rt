@@ -1,76 +1,17 @@
-use crate::{Config, merge};
+use crate::{Config, MemEngines, ReadConfig, merge};
 use rnv_base::{List, Share};
-use rnv_options::{
-    Kind, MatchOn, Opt, OptValue, Plain, Rule, RuleSetting, Setting, Wrong, customs, read_matcher,
-    read_plain,
-};
-use rnv_pattern::MemBuilder;
-use serde_json::Value;
+use rnv_options::{Opt, OptValue, Plain};
 use std::alloc::Global;
-use std::convert::{AsSlice, AsStr};
+use std::convert::AsStr;
 use std::test::Fail;
 
-// A rule of known matchers and options.
-fn rule(alloc: Global, engines: &mut MemBuilder, json: &Value) -> Result<Rule, Wrong> {
-    let mut matchers = List::empty(alloc);
-    let mut sets = List::empty(alloc);
-    let Some(members) = json.as_object() else {
-        return Err(Wrong::WrongKind);
-    };
-    for (name, value) in members.iter() {
-        match MatchOn::named(name.as_str()) {
-            Some(on) => matchers.push(read_matcher(alloc, engines, on, value)?)?,
-            None => {
-                let Some(opt) = Opt::named(name.as_str()) else {
-                    return Err(Wrong::WrongKind);
-                };
-                let Some(values) = opt.values_in_rules() else {
-                    return Err(Wrong::WrongKind);
-                };
-                let value = read_plain(alloc, engines, values, value)?;
-                sets.push(RuleSetting { opt, value })?;
-            }
-        }
-    }
-    Ok(Rule { matchers, sets })
-}
-
-// The value of an option.
-fn value_of(
-    alloc: Global,
-    engines: &mut MemBuilder,
-    kind: Kind,
-    json: &Value,
-) -> Result<OptValue, Wrong> {
-    match kind {
-        Kind::Plain(values) => Ok(OptValue::Plain(read_plain(alloc, engines, values, json)?)),
-        Kind::Customs => Ok(OptValue::Customs(customs(alloc, engines, json)?)),
-        Kind::Rules => {
-            let mut rules = List::empty(alloc);
-            if let Some(items) = json.as_array() {
-                for item in items.as_slice() {
-                    rules.push(rule(alloc, engines, item)?)?;
-                }
-            }
-            Ok(OptValue::Rules(rules))
-        }
-    }
-}
-
-// The configuration of known options in this JSON object.
+// What a JSON object sets.
 fn config(alloc: Global, json: &str) -> Result<Config, Fail> {
-    let mut engines = MemBuilder::new(alloc, List::empty(alloc));
-    let mut settings = List::empty(alloc);
-    let json = Value::from_str(alloc, json)?;
-    let members = json.as_object().ok_or("an object")?;
-    for (name, value) in members.iter() {
-        let opt = Opt::named(name.as_str()).ok_or("an option")?;
-        let Ok(value) = value_of(alloc, &mut engines, opt.kind(), value) else {
-            return Err("a value".into());
-        };
-        settings.push(Setting { opt, value })?;
+    let mut engines = MemEngines::new(alloc, List::empty(alloc), List::empty(alloc));
+    match Config::read(alloc, &mut engines, json.as_bytes()) {
+        Ok(ReadConfig { config, .. }) => Ok(config),
+        Err(_) => Err("a configuration".into()),
     }
-    Ok(Config { settings })
 }
 
 // A parent, a child, and the text of both as one.
@@ -78,9 +19,11 @@ const MERGES: &str =
     r#"{"ignoreDeps":["a"],"labels":["x"]}|{"ignoreDeps":["b"],"labels":["y"]}|{"ignoreDeps":["a","b"],"labels":["y"]}
 {}|{}|{}
 {"enabled":false,"groupName":"a"}|{"prPriority":-3}|{"enabled":false,"groupName":"a","prPriority":-3}
+{"rebaseWhen":"behind-base-branch","prHourlyLimit":6}|{"extends":["local>acme/cfg:b"],"prHourlyLimit":5}|{"prHourlyLimit":5,"rebaseWhen":"behind-base-branch"}
 {"addLabels":["a"],"enabled":true}|{"addLabels":null,"enabled":null}|{"addLabels":["a"],"enabled":null}
 {"addLabels":null}|{"addLabels":"b","labels":null}|{"addLabels":["b"],"labels":null}
 {"packageRules":[{"matchDepNames":"a","enabled":false}]}|{"packageRules":[{"groupName":"g"},{}]}|{"packageRules":[{"enabled":false,"matchDepNames":["a"]},{"groupName":"g"},{}]}
+{"packageRules":[{"matchPackageNames":["@x/*"],"groupName":"x"}]}|{"packageRules":[{"matchPackageNames":["!@x/b"],"enabled":false}]}|{"packageRules":[{"groupName":"x","matchPackageNames":["@x/*"]},{"enabled":false,"matchPackageNames":["!@x/b"]}]}
 {"packageRules":[{}]}|{"packageRules":null}|{"packageRules":[{}]}
 {"customManagers":[{"customType":"regex","fileMatch":"a","matchStrings":"b"}]}|{"customManagers":[{"customType":"regex","fileMatch":"c","matchStrings":"d"}]}|{"customManagers":[{"customType":"regex","fileMatch":["a"],"matchStrings":["b"]},{"customType":"regex","fileMatch":["c"],"matchStrings":["d"]}]}
 {"postUpgradeTasks":{"commands":["x"],"fileFilters":["a"]}}|{"postUpgradeTasks":{"fileFilters":["b"]}}|{"postUpgradeTasks":{"commands":["x"],"fileFilters":["b"]}}
@@ -104,6 +47,11 @@ fn merges(rt: HostRuntime) -> Result<(), Fail> {
 // A configuration, and its text.
 const TEXTS: &str =
     r#"{"updateNotScheduled":false,"timezone":"UTC","prHourlyLimit":0}|{"prHourlyLimit":0,"timezone":"UTC","updateNotScheduled":false}
+{"labels":"x","$schema":"s","automerge":true}|{"labels":["x"]}
+{"labels":null,"addLabels":null,"postUpgradeTasks":null}|{"addLabels":[],"labels":null,"postUpgradeTasks":{"commands":[],"fileFilters":[]}}
+{"extends":["config:recommended"],"labels":["dependencies"],"packageRules":[{"matchPackageNames":["@types/*"],"groupName":"types"}]}|{"labels":["dependencies"],"packageRules":[{"groupName":"types","matchPackageNames":["@types/*"]}]}
+{"packageRules":[{"matchFoo":1,"enabled":false},{"matchManagers":null,"prHourlyLimit":1,"description":"d"}]}|{"packageRules":[{}]}
+{"postUpgradeTasks":{"commands":"sort","fileFilters":["*.txt"]}}|{"postUpgradeTasks":{"commands":["sort"],"fileFilters":["*.txt"]}}
 {"labels":"x\"\u00e9\n","branchPrefix":"b/","schedule":[]}|{"branchPrefix":"b/","labels":["x\"é\n"],"schedule":[]}
 {"ignorePaths":["**/a/**","!/b/i"],"allowedVersions":"!/^2/"}|{"allowedVersions":"!/^2/","ignorePaths":["**/a/**","!/b/i"]}
 {"allowedVersions":"<2","minimumReleaseAge":"3 days","rangeStrategy":null}|{"allowedVersions":"<2","minimumReleaseAge":"3 days","rangeStrategy":null}

@@ -1,7 +1,6 @@
-use crate::{Config, ConfigError, ReadConfig};
+use crate::{Config, ConfigError, MemEngines, ReadConfig};
 use rnv_base::{List, Text};
 use rnv_options::{Allowed, Matcher, OptValue, Plain, Rule, RuleSetting};
-use rnv_pattern::MemBuilder;
 use std::alloc::{AllocError, Global};
 use std::convert::{AsSlice, AsStr};
 use std::test::Fail;
@@ -82,13 +81,13 @@ fn put_read(alloc: Global, out: &mut String, read: &ReadConfig) -> Result<(), Al
     put_texts(out, read.warnings.as_slice())
 }
 
-// What the bytes are read as, where the engines refuse the calls with these numbers.
+// What the bytes are read as, where the engines refuse the builds with these numbers.
 fn answer(alloc: Global, bytes: &[u8], failing: &[u64]) -> Result<String, AllocError> {
     let mut calls = List::empty(alloc);
     for call in failing {
         calls.push(*call)?;
     }
-    let mut engines = MemBuilder::new(alloc, calls);
+    let mut engines = MemEngines::new(alloc, calls, List::empty(alloc));
     let mut out = String::new(alloc);
     match Config::read(alloc, &mut engines, bytes) {
         Ok(read) => put_read(alloc, &mut out, &read)?,
@@ -125,7 +124,14 @@ null|not an object
 {"prHourlyLimit":1e2}|kind of prHourlyLimit
 {"prHourlyLimit":9223372036854775808}|kind of prHourlyLimit
 {"prPriority":-7,"enabled":false,"allowedVersions":"<2"}|allowedVersions=<2 enabled=false prPriority=-7 [][][]
+{"rangeStrategy":"widen"}|rangeStrategy=widen [][][]
+{"prConcurrentLimit":1}|prConcurrentLimit=1 [][][]
 {"extends":["b","a"],"ignorePresets":"c"}|[b;a;][c;][]
+{"extends":["config:recommended"]}|[config:recommended;][][]
+{"extends":["group:all",":separatePatchReleases"]}|[group:all;:separatePatchReleases;][][]
+{"extends":["github>a/b"]}|[github>a/b;][][]
+{"extends":["local>acme/cfg:a"],"ignorePresets":[":prConcurrentLimit20"]}|[local>acme/cfg:a;][:prConcurrentLimit20;][]
+{"$schema":"https://docs.renovatebot.com/renovate-schema.json","extends":["config:recommended"],"labels":["dependencies"],"packageRules":[{"matchPackageNames":["@types/*"],"groupName":"types"}]}|labels=[dependencies;] packageRules={matchPackageNames[@types/*;] groupName=types } [config:recommended;][][]
 {"extends":null,"ignorePresets":null}|[][][]
 {"extends":{}}|kind of extends
 {"ignorePresets":[1]}|kind of ignorePresets
@@ -173,6 +179,16 @@ fn nested(alloc: Global, depth: u32) -> Result<String, AllocError> {
     Ok(text)
 }
 
+// An object with a text of so many times 64 bytes.
+fn long(alloc: Global, pieces: u32) -> Result<String, AllocError> {
+    let mut text = String::from_str(alloc, "{\"a\":\"")?;
+    for _ in 0..pieces {
+        text.push_str("0123456789abcdef0123456789abcdef0123456789abcdef0123456789abcdef")?;
+    }
+    text.push_str("\"}")?;
+    Ok(text)
+}
+
 #[test]
 fn bytes_of_any_kind(rt: HostRuntime) -> Result<(), Fail> {
     let alloc = rt.alloc();
@@ -184,25 +200,28 @@ fn bytes_of_any_kind(rt: HostRuntime) -> Result<(), Fail> {
     assert_eq!(rt; deep.as_str(), "[][][unknown option a;]");
     let deeper = answer(alloc, nested(alloc, 127)?.as_bytes(), &[])?;
     assert_eq!(rt; deeper.as_str(), "not JSON");
+    let large = answer(alloc, long(alloc, 1_048_576)?.as_bytes(), &[])?;
+    assert_eq!(rt; large.as_str(), "[][][unknown option a;]");
     Ok(())
 }
 
-// Expressions, in the order in which the engines are asked.
-const EXPRESSIONS: &str =
-    r#"{"timezone":1,"packageRules":[{"matchDepNames":"/b/"}],"ignorePaths":["/a/"]}"#;
+// A configuration, and what it is read as where its first build is refused, its second, and so on up to one
+// more than it has expressions: so each is built once.
+const REFUSALS: &str = r#"{"timezone":1,"packageRules":[{"matchDepNames":"/b/"}],"ignorePaths":["/a/"]}|value of ignorePaths|value of packageRules|kind of timezone
+{"customManagers":[{"customType":"regex","fileMatch":["^tools\\.txt$"],"matchStrings":["tool=(?P<depName>[a-z]+) v(?P<currentValue>[0-9]\\.[0-9]\\.[0-9])"],"datasourceTemplate":"npm"}]}|value of customManagers|value of customManagers|customManagers=1 [][][]
+{"postUpgradeTasks":{"fileFilters":["/f/","*.txt"]},"allowedVersions":"/a/","ignorePaths":["x*","/d/"],"packageRules":[{"matchDepNames":["/c/","!/d/i"],"matchCurrentVersion":"/b/"}]}|value of allowedVersions|value of ignorePaths|value of packageRules|value of packageRules|value of packageRules|value of postUpgradeTasks|allowedVersions=/a/ ignorePaths=[x*;/d/;] packageRules={matchCurrentVersion[/b/;] matchDepNames[/c/;!/d/i;] } postUpgradeTasks=tasks [][][]"#;
 
 #[test]
 fn engines_that_refuse(rt: HostRuntime) -> Result<(), Fail> {
-    let alloc = rt.alloc();
-    let bytes = EXPRESSIONS.as_bytes();
-    assert_eq!(rt; answer(alloc, bytes, &[])?.as_str(), "kind of timezone");
-    assert_eq!(rt;
-        answer(alloc, bytes, &[0])?.as_str(),
-        "value of ignorePaths"
-    );
-    assert_eq!(rt;
-        answer(alloc, bytes, &[1])?.as_str(),
-        "value of packageRules"
-    );
+    for line in REFUSALS.lines() {
+        let mut cells = line.split('|');
+        let bytes = cells.next().ok_or("a configuration")?.as_bytes();
+        let mut number: u64 = 0;
+        for wanted in cells {
+            let given = answer(rt.alloc(), bytes, &[number])?;
+            assert_eq!(rt; given.as_str(), wanted, "{line} without {number}");
+            number = number.saturating_add(1);
+        }
+    }
     Ok(())
 }
