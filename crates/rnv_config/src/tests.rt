@@ -207,7 +207,8 @@ fn bytes_of_any_kind(rt: HostRuntime) -> Result<(), Fail> {
 
 // A configuration, and what it is read as where its first build is refused, its second, and so on up to one
 // more than it has expressions: so each is built once.
-const REFUSALS: &str = r#"{"timezone":1,"packageRules":[{"matchDepNames":"/b/"}],"ignorePaths":["/a/"]}|value of ignorePaths|value of packageRules|kind of timezone
+const REFUSALS: &str =
+    r#"{"timezone":1,"packageRules":[{"matchDepNames":"/b/"}],"ignorePaths":["/a/"]}|value of ignorePaths|value of packageRules|kind of timezone
 {"customManagers":[{"customType":"regex","fileMatch":["^tools\\.txt$"],"matchStrings":["tool=(?P<depName>[a-z]+) v(?P<currentValue>[0-9]\\.[0-9]\\.[0-9])"],"datasourceTemplate":"npm"}]}|value of customManagers|value of customManagers|customManagers=1 [][][]
 {"postUpgradeTasks":{"fileFilters":["/f/","*.txt"]},"allowedVersions":"/a/","ignorePaths":["x*","/d/"],"packageRules":[{"matchDepNames":["/c/","!/d/i"],"matchCurrentVersion":"/b/"}]}|value of allowedVersions|value of ignorePaths|value of packageRules|value of packageRules|value of packageRules|value of postUpgradeTasks|allowedVersions=/a/ ignorePaths=[x*;/d/;] packageRules={matchCurrentVersion[/b/;] matchDepNames[/c/;!/d/i;] } postUpgradeTasks=tasks [][][]"#;
 
