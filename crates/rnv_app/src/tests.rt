@@ -85,8 +85,25 @@ fn failing(
     Ok(renovate(alloc, &words(alloc, line)?, Outside { out, folder, disk }))
 }
 
+const SERDE: &str = r#"[dependencies]
+# serde = "0.1.0"
+serde_x = { package = "serde", version = "1.0.100" } # "1.0.100"
+[package.metadata]
+note = """
+[dependencies]
+serde = "1.0.100"
+"""
+"#;
+
+const STAGES: &str = "FROM --platform=linux/amd64 localhost:5000/base:1.2 AS build
+from build
+FROM ${IMG}:3
+FROM node:20.1 AS web
+FROM scratch
+";
+
 // The files, the status, and what is printed.
-const PLANS: [(&[File], u8, &str); 17] = [
+const PLANS: [(&[File], u8, &str); 20] = [
     (&[LEFT_PAD, REACT, TWO], 0, TWO_PLAN),
     (
         &[
@@ -170,6 +187,41 @@ const PLANS: [(&[File], u8, &str); 17] = [
         ],
         13,
         "error 13: index/npm/left-pad.json line 1\n",
+    ),
+    // A `Cargo.toml` with an update of one of its texts alone, and Dockerfiles.
+    (
+        &[
+            (
+                "index/crates/serde",
+                "{\"vers\":\"1.0.100\"}\n{\"vers\":\"1.0.200\"}\n{\"vers\":\"2.0.0\"}\n",
+            ),
+            ("repos/acme/web/Cargo.toml", SERDE),
+        ],
+        0,
+        "now 2024-06-03T10:15:00Z\nCargo.toml serde_x 1.0.100 -> 2.0.0 (major) renovate/serde-2.x\n1 updates, 1 branches\n",
+    ),
+    (
+        &[
+            (
+                "index/docker/localhost:5000/base.json",
+                "{\"tags\":[\"1.2\",\"1.3\",\"1.4.0\"]}",
+            ),
+            ("index/docker/node.json", "{\"tags\":[\"20.2\",\"22.1\"]}"),
+            ("repos/acme/web/Dockerfile", STAGES),
+        ],
+        0,
+        "now 2024-06-03T10:15:00Z\nDockerfile localhost:5000/base 1.2 -> 1.3 (minor) renovate/localhost-5000-base-1.x\nDockerfile node 20.1 -> 20.2 (minor) renovate/node-20.x\nDockerfile node 20.1 -> 22.1 (major) renovate/node-22.x\n3 updates, 3 branches\n",
+    ),
+    (
+        &[
+            (
+                "index/docker/node.json",
+                "{\"tags\":[\"20.11.1-alpine\",\"20.12.0-alpine\",\"22.1.0\"]}",
+            ),
+            ("repos/acme/web/Dockerfile", "FROM node:20.11.1-alpine"),
+        ],
+        0,
+        "now 2024-06-03T10:15:00Z\nDockerfile node 20.11.1-alpine -> 20.12.0-alpine (minor) renovate/node-20.x\n1 updates, 1 branches\n",
     ),
     // A configuration, another repository's file alone, and no file at all.
     (
