@@ -198,7 +198,7 @@ const PLANS: [(&[File], u8, &str); 20] = [
             ("repos/acme/web/Cargo.toml", SERDE),
         ],
         0,
-        "now 2024-06-03T10:15:00Z\nCargo.toml serde_x 1.0.100 -> 2.0.0 (major) renovate/serde-2.x\n1 updates, 1 branches\n",
+        "now 2024-06-03T10:15:00Z\nCargo.toml serde 1.0.100 -> 2.0.0 (major) renovate/serde-2.x\n1 updates, 1 branches\n",
     ),
     (
         &[
